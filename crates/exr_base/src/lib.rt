@@ -1,7 +1,22 @@
 //! What every layer speaks of: samples and their kinds, channels, boxes of pixels, methods of compression, the
-//! raw size of a region, and exact readers of bytes and bits.
+//! raw size of a region, exact readers of bytes and bits, and why a call can refuse.
 #![tactic(auto)]
 
+mod channel;
+mod cursor;
+mod method;
+mod name;
 mod refusal;
+mod sampling;
+mod shape;
 
+pub use channel::{Channel, Kind};
+pub use cursor::Cursor;
+pub use method::Method;
+pub use name::Name;
 pub use refusal::{Failed, NoMemory, Refusal};
+pub use sampling::{first_sample, sample_count};
+pub use shape::{Box2i, Shape};
+
+#[cfg(test)]
+mod tests;

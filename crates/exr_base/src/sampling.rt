@@ -1,0 +1,33 @@
+//! Where a channel has samples: at the multiples of its sampling, negative ones too.
+//!
+//! File Layout, "Predefined Attribute Types" (chlist: xSampling, ySampling); Technical Introduction, "Scan Lines".
+
+ghost use Rattle.std.specs.Prelude.{◌≡◌, ◌≤◌, ◌<◌, ◌^◌, pos, neg_ℤ, ◌≤ℤ◌, ◌-ℤ◌};
+ghost use Rattle.exr_base.specs.Sampling.{IsFirstSample, sample_count_of};
+
+/// The least multiple of `sampling` that is at least `from`.
+pub fn first_sample(sampling: u32, from: i32) -> i64
+    requires { 1 ≤ sampling }
+    ensures { IsFirstSample sampling from result }
+{
+    let past = i64::from(from).rem_euclid(i64::from(sampling));
+    if past == 0 {
+        i64::from(from)
+    } else {
+        i64::from(from) + (i64::from(sampling) - past)
+    }
+}
+
+/// The number of multiples of `sampling` from `from` to `to`, both included.
+pub fn sample_count(sampling: u32, from: i32, to: i32) -> u32
+    requires sampling { 1 ≤ sampling }
+    requires from_low { neg_ℤ (pos (2 ^ 30)) ≤ℤ from }
+    requires from_high { from ≤ℤ pos (2 ^ 30) }
+    requires to_low { (from -ℤ pos 1) ≤ℤ to }
+    requires to_high { to ≤ℤ pos (2 ^ 30) }
+    ensures { result ≡ sample_count_of sampling from to }
+{
+    let before = (i64::from(from) - 1).div_euclid(i64::from(sampling));
+    let last = i64::from(to).div_euclid(i64::from(sampling));
+    (last - before) as u32
+}
