@@ -6,7 +6,7 @@ ghost use Rattle.std.proofs.Common.{rules};
 ghost use Rattle.std.specs.Cmp.Rules.{comparing, hashing};
 ghost use Rattle.std.specs.Ordering.{nat_cmp, as_partial_cmp};
 ghost use Rattle.std.specs.Hash as fed;
-ghost use Rattle.exr_base.specs.Name.{name_of};
+ghost use Rattle.exr_base.specs.Name.{IsName, name_of};
 
 use arrayvec::ArrayVec;
 use std::alloc::AllocError;
@@ -51,7 +51,8 @@ impl Name {
 
     /// Its bytes, 1 to 255 of them.
     pub fn bytes(&self) -> &[u8]
-        ensures { result.now ≡ self.now }
+        ensures bytes { result.now ≡ self.now }
+        ensures name { IsName self.now }
     {
         self.bytes.as_slice()
     }

@@ -1,0 +1,4 @@
+//! Heads of files. For now the plainest alone: one part of scan lines with HALF channels and raw data.
+#![tactic(auto)]
+
+mod plain;
