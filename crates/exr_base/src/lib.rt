@@ -2,6 +2,8 @@
 //! raw size of a region, and exact readers of bytes and bits.
 #![tactic(auto)]
 
+mod bits;
 mod refusal;
 
+pub use bits::{BitReader, BitWriter};
 pub use refusal::{Failed, NoMemory, Refusal};
