@@ -1,3 +1,4 @@
+pub mod Bits
 pub mod Channel
 pub mod Cursor
 pub mod Method

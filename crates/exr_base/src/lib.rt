@@ -2,6 +2,7 @@
 //! raw size of a region, exact readers of bytes and bits, and why a call can refuse.
 #![tactic(auto)]
 
+mod bits;
 mod channel;
 mod cursor;
 mod method;
@@ -10,6 +11,7 @@ mod refusal;
 mod sampling;
 mod shape;
 
+pub use bits::{BitReader, BitWriter};
 pub use channel::{Channel, Kind};
 pub use cursor::Cursor;
 pub use method::Method;

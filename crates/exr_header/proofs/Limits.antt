@@ -1,5 +1,5 @@
 -- The tests of the limits, put together.
-use Rattle.std.proofs.Common.{◌≡◌, ◌≤◌, ◌*◌, ◌^◌, ◌↔◌, ℕ, ℤ, Bool, length, subst, sym, IsTrue, arith}
+use Rattle.std.proofs.Common.{◌≡◌, ◌≤◌, ◌*◌, ◌^◌, ◌↔◌, ℕ, ℤ, Bool, length, subst, sym, IsTrue}
 use Rattle.exr_base.specs.Sampling.{span_of}
 use Rattle.exr_header.specs.Plain.{Plain, IsWindowSide, IsWithinLimits}
 
@@ -8,9 +8,10 @@ side_at from to a b e f h = subst (λ y. IsWindowSide a y) (sym f) (subst (λ x.
 
 -- where both sides keep the limits, the whole keeps them exactly where the sizes do
 pub by_sizes : (h : Plain) (fits : Bool) (count columns rows : ℕ) → IsWindowSide h.window.x0 h.window.x1 → IsWindowSide h.window.y0 h.window.y1
-  → count ≡ length h.channels → columns ≡ span_of h.window.x0 h.window.x1 → rows ≡ span_of h.window.y0 h.window.y1
-  → (IsTrue fits ↔ ((2 * count * columns ≤ 2 ^ 26) × (2 * count * columns * rows ≤ 2 ^ 30))) → IsTrue fits ↔ IsWithinLimits h
+    → count ≡ length h.channels → columns ≡ span_of h.window.x0 h.window.x1 → rows ≡ span_of h.window.y0 h.window.y1
+    → (IsTrue fits ↔ ((2 * count * columns ≤ 2 ^ 26) × (2 * count * columns * rows ≤ 2 ^ 30))) → IsTrue fits ↔ IsWithinLimits h
 by_sizes h fits count columns rows wide high e f g test =
-    let t = rw (e, f, g) at test in
-    (λ yes. record { columns = wide; rows = high; line = (t.0 yes).0; whole = (t.0 yes).1 },
-     λ limits. t.1 (limits.line, limits.whole))
+    let t = rw (e, f, g) at test in (
+      λ yes. record { columns = wide; rows = high; line = (t.0 yes).0; whole = (t.0 yes).1 },
+      λ limits. t.1 (limits.line, limits.whole),
+    )

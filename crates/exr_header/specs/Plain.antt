@@ -1,6 +1,6 @@
 -- The plainest head: one part of scan lines with HALF channels without subsampling, raw data and increasing lines,
 -- and the eight needed attributes in the order of File Layout's table. What is not judged may be anything.
-use Rattle.std.specs.Prelude.{◌≡◌, ◌==◌, ◌&&◌, ◌≤◌, ◌<◌, ◌*◌, ◌+◌, ◌-◌, ◌^◌, ℕ, zero, suc, ℤ, pos, neg_ℤ, ◌≤ℤ◌, Bool, true, nat_eq, nat_lt, nat_le, bytes_eq, slice_index, List, [], ◌∷◌, ◌++◌, length, take, drop, codes, Option, Some, None, if◌then◌else◌, option_and_then, slice_get, unwrap_or}
+use Rattle.std.specs.Prelude.{◌≡◌, ◌==◌, ◌&&◌, ◌≤◌, ◌*◌, ◌+◌, ◌-◌, ◌^◌, ℕ, zero, suc, ℤ, pos, neg_ℤ, ◌≤ℤ◌, nat_eq, nat_lt, bytes_eq, slice_index, List, [], ◌∷◌, ◌++◌, length, take, drop, codes, Option, Some, None, if◌then◌else◌, option_and_then, slice_get, unwrap_or}
 use Rattle.std.specs.Option.{option_map}
 use Rattle.std.specs.List.{starts_with, position}
 use Rattle.std.specs.Int.{w32, from_le_bytes, cast_signed}
@@ -66,8 +66,8 @@ channel_at bytes = do
   columns ← number_at linear.1
   rows ← number_at columns.1
   if kind.0 == 1 && columns.0 == 1 && rows.0 == 1
-    then Some (record { name = name.0; kind = Half; linear = slice_index linear.0 0; xs = 1; ys = 1 }, rows.1)
-    else None
+      then Some (record { name = name.0; kind = Half; linear = slice_index linear.0 0; xs = 1; ys = 1 }, rows.1)
+      else None
 
 -- 1 to n channels and a zero byte, all of the bytes; the names rise from above a first one on
 unfoldable pub channels_at : ℕ → List ℕ → List ℕ → Option (List Channel)
@@ -75,10 +75,10 @@ channels_at zero above bytes = None
 channels_at (suc n) above bytes = do
   first ← channel_at bytes
   if is_lt (slice_cmp nat_cmp above first.0.name)
-    then (if bytes_eq first.1 (0 ∷ [])
+      then (if bytes_eq first.1 (0 ∷ [])
       then Some (first.0 ∷ [])
       else option_map (λ others. first.0 ∷ others) (channels_at n first.0.name first.1))
-    else None
+      else None
 
 -- the name of the last channel; before the first there is none, and the empty list is below every name
 unfoldable pub last_name_of : List Channel → List ℕ
@@ -143,8 +143,8 @@ plain_at bytes = do
   fields ← fields_at bytes
   channels ← channels_at 1024 [] fields.channels
   if bytes_eq fields.method (0 ∷ []) && bytes_eq fields.order (0 ∷ [])
-    then Some (record { channels = channels; window = box_of fields.window; bytes = length bytes - length fields.rest })
-    else None
+      then Some (record { channels = channels; window = box_of fields.window; bytes = length bytes - length fields.rest })
+      else None
 
 -- the raw bytes of a line, which are those of a chunk
 abbrev pub line_bytes_of : Plain → ℕ

@@ -1,9 +1,9 @@
-use Rattle.std.proofs.Common.{◌≡◌, ◌++◌, ◌∷◌, [], arith, sym, Some, None, true, false, ap, ◌∙◌}
+use Rattle.std.proofs.Common.{◌≡◌, ◌∷◌, [], arith, sym, Some, true, false, ap, ◌∙◌}
 use Rattle.std.specs.Prelude.{bytes_eq}
 use Rattle.std.specs.Ordering.{is_lt, nat_cmp}
 use Rattle.std.specs.Cmp.Lexicographic.{slice_cmp}
 use Rattle.exr_header.specs.Plain.{channels_at, last_name_of}
-use Rattle.exr_header.proofs.Listed.{IsSoFar, begins, no_channel, does_not_rise, ends, goes_on, used_up}
+use Rattle.exr_header.proofs.Listed.{begins, no_channel, does_not_rise, ends, goes_on, used_up}
 use Rattle.exr_header.proofs.plain.channels.Goals as goal
 
 pub loop-init : goal.loop-init
