@@ -1,0 +1,21 @@
+//! The outside: sources, sinks, sets of files and gates as traits that state what each call means and when it may
+//! fail; fakes in memory that fail exactly where they are told to; and thin adapters over real files. It promises
+//! that no call fails unless its object's count of failures rose.
+#![tactic(auto)]
+
+mod calls;
+mod files;
+mod gate;
+mod mem_source;
+mod sink;
+mod source;
+mod transfer;
+mod world;
+
+pub use files::Files;
+pub use gate::{Gate, PlainGate};
+pub use mem_source::MemSource;
+pub use sink::{Printer, Sink};
+pub use source::Source;
+pub use transfer::{CutShort, append_all, read_full, write_all_at};
+pub use world::{RealWorld, World};
