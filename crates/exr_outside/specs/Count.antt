@@ -1,5 +1,5 @@
 -- How often an object of the outside has failed: when such a count rose, and which answers owe a rise.
-use Rattle.std.specs.Prelude.{◌≡◌, ℕ, ◌+◌, ◌-◌, ◌^◌, ◌<◌, ◌≤◌, min, max, Result, Ok, Err, OnErr, if◌then◌else◌, ◌==◌}
+use Rattle.std.specs.Prelude.{◌≡◌, ℕ, ◌+◌, ◌-◌, ◌^◌, ◌<◌, ◌≤◌, min, max, Result, Ok, Err, OnErr, ⊤, if◌then◌else◌, ◌==◌}
 use Rattle.exr_base.specs.declared.refusal.Refusal.{Refusal}
 use Rattle.exr_base.specs.declared.refusal.Refusal.TheVariants as refusal
 
@@ -29,6 +29,11 @@ abbrev pub MatchFault : {T F : Type 0} → Result T (Refusal F) → Type 0 → T
 MatchFault (Ok x) fault other = other
 MatchFault (Err (refusal.Fault f)) fault other = fault
 MatchFault (Err refusal.NoMemory) fault other = other
+
+-- the same for a call that may also run out of memory, which says nothing
+pub record HasFaultCause {T F : Type 0} (before now : ℕ) (result : Result T (Refusal F)) : Type 0 where
+  pub later : before ≤ now
+  pub failed : MatchFault result (Rose before now) ⊤
 
 -- the count of calls that failed: it rises at a call that fails, and stands still at any other
 pub record CountsFailure {T F : Type 0} (before now : ℕ) (result : Result T (Refusal F)) : Type 0 where

@@ -11,6 +11,7 @@ use exr_base::{Failed, Refusal};
 /// and of what was given back. It may tell which names it was asked and what it was given back.
 pub trait Files<W: World> {
     type In: Source;
+
     type Out: Sink;
 
     ghost means: { FilesMeaning Self };

@@ -17,5 +17,5 @@ pub use gate::{Gate, PlainGate};
 pub use mem_source::MemSource;
 pub use sink::{Printer, Sink};
 pub use source::Source;
-pub use transfer::{CutShort, append_all, read_full, write_all_at};
+pub use transfer::{CutShort, append_all, read_all, read_full, write_all_at};
 pub use world::{RealWorld, World};

@@ -29,11 +29,12 @@ impl Model for MemSource {
     ghost Value = { MemSourceState };
 
     ghost view = { λ s. record {
-        name = string_bytes s.name;
-        bytes = s.bytes.items;
-        len_calls = s.len_calls;
-        read_calls = s.read_calls;
-        faults = s.faults } };
+      name = string_bytes s.name;
+      bytes = s.bytes.items;
+      len_calls = s.len_calls;
+      read_calls = s.read_calls;
+      faults = s.faults;
+    } };
 }
 
 impl MemSource {
@@ -46,11 +47,12 @@ impl MemSource {
         read_fails: Vec<u64>,
     ) -> Result<MemSource, NoMemory>
         ensures { IfOk result (λ s. s ≡ record {
-            name = name.now;
-            bytes = bytes.items;
-            len_calls = record { fails = len_fails.items; made = 0 };
-            read_calls = record { fails = read_fails.items; made = 0 };
-            faults = 0 }) }
+          name = name.now;
+          bytes = bytes.items;
+          len_calls = record { fails = len_fails.items; made = 0 };
+          read_calls = record { fails = read_fails.items; made = 0 };
+          faults = 0;
+        }) }
     {
         Ok(MemSource {
             name: String::from_str(alloc, name)?,
@@ -64,10 +66,11 @@ impl MemSource {
 
 impl Source for MemSource {
     ghost means = { record {
-        tells = true;
-        name = λ s. s.name;
-        content = λ s. s.bytes;
-        faults = λ s. s.faults } };
+      tells = true;
+      name = λ s. s.name;
+      content = λ s. s.bytes;
+      faults = λ s. s.faults;
+    } };
 
     fn name(&self) -> &str {
         self.name.as_str()
@@ -77,8 +80,9 @@ impl Source for MemSource {
         ensures fails { IsErr result ↔ IsNamed self.old.len_calls }
         ensures length { IfOk result (λ n. n ≡ length self.old.bytes) }
         ensures state { self.new ≡ record self.old {
-            len_calls = counted self.old.len_calls;
-            faults = faults_after result self.old.faults } }
+          len_calls = counted self.old.len_calls;
+          faults = faults_after result self.old.faults;
+        } }
         ensures cause { HasCause self.old.faults self.new.faults result }
     {
         if self.len_calls.is_next_named() {
@@ -93,8 +97,9 @@ impl Source for MemSource {
         ensures piece { IfOk result (ReadsPiece self.old.bytes pos into.old into.new) }
         ensures whole { IfOk result (λ count. count ≡ min (length into.old) (length self.old.bytes - pos)) }
         ensures state { self.new ≡ record self.old {
-            read_calls = counted self.old.read_calls;
-            faults = faults_after result self.old.faults } }
+          read_calls = counted self.old.read_calls;
+          faults = faults_after result self.old.faults;
+        } }
         ensures cause { HasCause self.old.faults self.new.faults result }
     {
         if self.read_calls.is_next_named() {

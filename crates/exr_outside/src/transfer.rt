@@ -1,7 +1,7 @@
 //! Whole transfers over the traits: a read that goes on until there is no more, and writes of whole lists.
 
 ghost use Rattle.std.specs.Prelude.{◌≡◌, ◌+◌, ◌^◌, ◌<◌, ◌≤◌, ◌++◌, ℕ, IsTrue, IfOk, IfErr, OnOk, length, take};
-ghost use Rattle.exr_outside.specs.Count.{HasCause, CountsFailure};
+ghost use Rattle.exr_outside.specs.Count.{HasCause, HasFaultCause};
 ghost use Rattle.exr_outside.specs.Source.{IsSameSource};
 ghost use Rattle.exr_outside.specs.Sink.{replaced};
 ghost use Rattle.exr_outside.specs.Transfer.{Fills, AddsAtLeast, ReplacesAtLeast};
@@ -58,6 +58,19 @@ pub fn write_all_at<K: Sink>(sink: &mut K, pos: u64, bytes: &[u8]) -> Result<(),
         }
     }
     Ok(())
+}
+
+/// All bytes of a source.
+pub fn read_all<S: Source>(alloc: Global, source: &mut S) -> Result<Vec<u8>, Refusal<Failed>>
+    ensures bytes { IsTrue S.means.tells → IfOk result (λ v. v.items ≡ S.means.content source.old) }
+    ensures same { IsSameSource S.means source.old source.new }
+    ensures cause { HasFaultCause (S.means.faults source.old) (S.means.faults source.new) result }
+{
+    let len = source.len().map_err(Refusal::Fault)?;
+    let mut bytes = vec![in alloc; 0u8; len as usize]?;
+    let count = read_full(source, 0, &mut bytes).map_err(Refusal::Fault)?;
+    bytes.truncate(count);
+    Ok(bytes)
 }
 
 /// Adds all of the bytes at the end.
