@@ -1,7 +1,7 @@
 -- One piece after another: what is written, put and read by two calls is what one call of both would leave.
-use Rattle.std.proofs.Common.{◌≡◌, ℕ, ◌+◌, ◌-◌, ◌≤◌, List, [], ◌++◌, length, take, drop, sym, ap, subst, ◌∙◌, append_assoc, arith, length-append, length-drop}
+use Rattle.std.proofs.Common.{add-zero, refl, ◌≡◌, ℕ, ◌+◌, ◌-◌, ◌≤◌, List, [], ◌++◌, length, take, drop, sym, ap, subst, ◌∙◌, append_assoc, arith, length-append, length-drop}
 use Rattle.std.proofs.Math.Seq.{take-add, take-append_seam, drop-append-add, take-append-add}
-use Rattle.std.proofs.lemmas.List.{drop-drop, length-take-le, take-append-le, append-nil}
+use Rattle.std.proofs.lemmas.List.{drop-drop, length-take-le, take-append-le, append-nil, take-append-drop}
 use Rattle.std.proofs.Math.ListN.{drop_of_length-le}
 use borrow.Rule.Slice.PartMut.{put_mid}
 use Rattle.exr_outside.specs.Sink.{replaced}
@@ -24,6 +24,10 @@ replaced-append pos xs ys old inside =
     ap (λ (x : List ℕ). x ++ ys ++ drop (pos + length xs + length ys) (front ++ back)) before
     ∙ ap (λ (x : List ℕ). front ++ ys ++ x) after
     ∙ ap (λ (x : List ℕ). x ++ drop (pos + length (xs ++ ys)) old) (append_assoc (take pos old) xs ys)
+
+-- a list in whose place nothing was put
+pub replaced-nothing : (pos : ℕ) (old : List ℕ) → old ≡ replaced pos [] old
+replaced-nothing pos old = rw (append-nil, add-zero, take-append-drop) refl
 
 -- a first part and then a first part of the rest, put in the place of what was there
 pub replaced-take : (bytes old now new : List ℕ) (pos n m : ℕ) → n ≤ length bytes → pos ≤ length old → now ≡ replaced pos (take n bytes) old → new ≡ replaced (pos + n) (take m (drop n bytes)) now → new ≡ replaced pos (take (n + m) bytes) old

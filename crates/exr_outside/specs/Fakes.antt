@@ -27,3 +27,13 @@ pub record MemSourceState : Type 0 where
   pub len_calls : CallState
   pub read_calls : CallState
   pub faults : ℕ
+
+-- a sink in memory
+pub record MemSinkState : Type 0 where
+  pub name : List ℕ
+  pub bytes : List ℕ
+  -- how many bytes it may hold
+  pub room : ℕ
+  pub append_calls : CallState
+  pub write_calls : CallState
+  pub faults : ℕ

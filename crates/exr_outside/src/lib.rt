@@ -6,7 +6,9 @@
 mod calls;
 mod files;
 mod gate;
+mod mem_sink;
 mod mem_source;
+mod shelf;
 mod sink;
 mod source;
 mod transfer;
@@ -14,6 +16,7 @@ mod world;
 
 pub use files::Files;
 pub use gate::{Gate, PlainGate};
+pub use mem_sink::MemSink;
 pub use mem_source::MemSource;
 pub use sink::{Printer, Sink};
 pub use source::Source;
