@@ -4,3 +4,4 @@ pub mod Sink
 pub mod Files
 pub mod Fakes
 pub mod Transfer
+pub mod Shelf

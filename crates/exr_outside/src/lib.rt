@@ -4,8 +4,10 @@
 #![tactic(auto)]
 
 mod calls;
+mod counts;
 mod files;
 mod gate;
+mod mem_files;
 mod mem_sink;
 mod mem_source;
 mod shelf;
@@ -14,8 +16,10 @@ mod source;
 mod transfer;
 mod world;
 
+pub use counts::rise;
 pub use files::Files;
 pub use gate::{Gate, PlainGate};
+pub use mem_files::{Fails, MemFiles};
 pub use mem_sink::MemSink;
 pub use mem_source::MemSource;
 pub use sink::{Printer, Sink};

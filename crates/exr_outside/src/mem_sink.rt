@@ -1,12 +1,13 @@
 //! A sink in memory, with room for so many bytes and lists of the calls that are to fail.
 
-ghost use Rattle.std.specs.Prelude.{◌≡◌, ◌↔◌, ◌⊎◌, ◌+◌, ◌-◌, ◌<◌, ◌≤◌, ◌++◌, [], min, true, IsErr, IfOk, OnOk, OnErr, length, take};
+ghost use Rattle.std.specs.Prelude.{◌≡◌, ◌↔◌, ◌⊎◌, ◌+◌, ◌-◌, ◌<◌, ◌≤◌, ◌∷◌, ◌++◌, min, true, IsErr, IfOk, OnOk, OnErr, length, take};
 ghost use Rattle.exr_outside.specs.Count.{HasCause};
 ghost use Rattle.exr_outside.specs.Sink.{replaced, ReplacesPrefix};
-ghost use Rattle.exr_outside.specs.Fakes.{IsNamed, counted, faults_after};
+ghost use Rattle.exr_outside.specs.Fakes.{IsNamed, counted, faults_after, new_sink};
 
 use crate::calls::Calls;
-use crate::shelf::Shelf;
+use crate::counts::count_failure;
+use crate::shelf::{Shelf, shelve};
 use crate::{Printer, Sink};
 use exr_base::{Failed, NoMemory};
 use std::alloc::Global;
@@ -43,6 +44,8 @@ impl Model for MemSink {
 }
 
 impl MemSink {
+    ghost use Rattle.exr_outside.specs.Shelf.{shelved, shelved_in};
+
     /// A sink of this name that holds nothing, with room for so many bytes; the lists name the calls of `append` and
     /// of `write_at` that are to fail.
     pub fn new(
@@ -52,13 +55,7 @@ impl MemSink {
         append_fails: Vec<u64>,
         write_fails: Vec<u64>,
     ) -> Result<MemSink, NoMemory>
-        ensures { IfOk result (λ s. s ≡ record {
-            name = name.now;
-            bytes = [];
-            room = room;
-            append_calls = record { fails = append_fails.items; made = 0 };
-            write_calls = record { fails = write_fails.items; made = 0 };
-            faults = 0 }) }
+        ensures { IfOk result (λ s. s ≡ new_sink name.now room append_fails.items write_fails.items) }
     {
         let shelf = Shelf {
             name: String::new(alloc),
@@ -81,6 +78,22 @@ impl MemSink {
         ensures { result.now ≡ self.now.bytes }
     {
         &self.bytes
+    }
+
+    // Its box, with its name and what it held, in front of what was kept before.
+    pub(crate) fn into_shelf(self, before: Option<Box<Shelf>>) -> Box<Shelf>
+        ensures { shelved result.value ≡ (self.name, self.bytes) ∷ shelved_in before }
+    {
+        let MemSink {
+            name,
+            bytes,
+            room: _,
+            append_calls: _,
+            write_calls: _,
+            faults: _,
+            shelf,
+        } = self;
+        shelve(shelf, name, bytes, before)
     }
 }
 
@@ -106,7 +119,7 @@ impl Printer for MemSink {
         let named = self.append_calls.is_next_named();
         let count = bytes.len().min(self.room - self.bytes.len());
         if named || (count == 0 && !bytes.is_empty()) {
-            self.faults = self.faults.saturating_add(1);
+            count_failure(&mut self.faults);
             return Err(Failed);
         }
         self.bytes.extend_from_slice(&bytes[..count]).unwrap();
@@ -137,7 +150,7 @@ impl Sink for MemSink {
         ensures cause { HasCause self.old.faults self.new.faults result }
     {
         if self.write_calls.is_next_named() {
-            self.faults = self.faults.saturating_add(1);
+            count_failure(&mut self.faults);
             return Err(Failed);
         }
         let from = pos as usize;

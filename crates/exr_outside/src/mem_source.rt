@@ -3,10 +3,11 @@
 ghost use Rattle.std.specs.Prelude.{◌≡◌, ◌↔◌, ◌-◌, min, true, IsErr, IfOk, length};
 ghost use Rattle.exr_outside.specs.Count.{HasCause};
 ghost use Rattle.exr_outside.specs.Source.{ReadsPiece};
-ghost use Rattle.exr_outside.specs.Fakes.{IsNamed, counted, faults_after};
+ghost use Rattle.exr_outside.specs.Fakes.{IsNamed, counted, faults_after, new_source};
 
 use crate::Source;
 use crate::calls::Calls;
+use crate::counts::count_failure;
 use exr_base::{Failed, NoMemory};
 use std::alloc::Global;
 use std::marker::Model;
@@ -46,13 +47,7 @@ impl MemSource {
         len_fails: Vec<u64>,
         read_fails: Vec<u64>,
     ) -> Result<MemSource, NoMemory>
-        ensures { IfOk result (λ s. s ≡ record {
-          name = name.now;
-          bytes = bytes.items;
-          len_calls = record { fails = len_fails.items; made = 0 };
-          read_calls = record { fails = read_fails.items; made = 0 };
-          faults = 0;
-        }) }
+        ensures { IfOk result (λ s. s ≡ new_source name.now bytes.items len_fails.items read_fails.items) }
     {
         Ok(MemSource {
             name: String::from_str(alloc, name)?,
@@ -86,7 +81,7 @@ impl Source for MemSource {
         ensures cause { HasCause self.old.faults self.new.faults result }
     {
         if self.len_calls.is_next_named() {
-            self.faults = self.faults.saturating_add(1);
+            count_failure(&mut self.faults);
             return Err(Failed);
         }
         Ok(self.bytes.len() as u64)
@@ -103,7 +98,7 @@ impl Source for MemSource {
         ensures cause { HasCause self.old.faults self.new.faults result }
     {
         if self.read_calls.is_next_named() {
-            self.faults = self.faults.saturating_add(1);
+            count_failure(&mut self.faults);
             return Err(Failed);
         }
         let from = (pos as usize).min(self.bytes.len());
