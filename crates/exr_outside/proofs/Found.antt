@@ -1,5 +1,5 @@
 -- What a look-up by name finds, and when a call that may fail for two reasons fails.
-use Rattle.std.proofs.Common.{◌≡◌, ℕ, Bool, true, false, cond, List, [], ◌∷◌, Option, Some, None, option_map, All, bytes_eq, find, refl, ◌⊎◌, ⊎_elim, inr, Result, Ok, Err}
+use Rattle.std.proofs.Common.{◌≡◌, ℕ, Bool, true, false, cond, List, [], ◌∷◌, Some, option_map, bytes_eq, find, refl, ◌⊎◌, ⊎_elim, inr, Result, Ok, Err}
 use Rattle.std.proofs.lemmas.List.Elements.{All-head, All-tail}
 use Rattle.std.proofs.lemmas.Slice.Eq.{bytes_eq-Decides}
 use Rattle.exr_base.specs.declared.refusal.Refusal.{Refusal}
@@ -15,8 +15,8 @@ file_of-world bytes_of (file ∷ files) name bytes all found =
     let again = file_of-world bytes_of files name bytes (All-tail known file files all) in
     let Goal : Bool → Type 0 = λ b. (b ≡ true → file.0 ≡ name) → option_map (λ (f : List ℕ × List ℕ). f.1) (cond b (Some file) (find (λ (f : List ℕ × List ℕ). bytes_eq f.0 name) files)) ≡ Some bytes → bytes ≡ bytes_of name in
     elim (bytes_eq file.0 name) as Goal [
-      true ↦ λ same here. let named : file.0 ≡ name = same refl in cc
-    | false ↦ λ same later. again later
+      | true ↦ λ same here. let named : file.0 ≡ name = same refl in cc
+      | false ↦ λ same later. again later
     ] ((bytes_eq-Decides file.0 name).0) found
 
 -- a call that fails where the second fact holds fails where either holds, if the first does not

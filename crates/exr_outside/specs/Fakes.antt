@@ -50,7 +50,8 @@ new_source name bytes lens reads = record {
   bytes = bytes;
   len_calls = record { fails = lens; made = 0 };
   read_calls = record { fails = reads; made = 0 };
-  faults = 0 }
+  faults = 0;
+}
 
 -- a sink in memory
 pub record MemSinkState : Type 0 where
@@ -70,7 +71,8 @@ new_sink name room appends writes = record {
   room = room;
   append_calls = record { fails = appends; made = 0 };
   write_calls = record { fails = writes; made = 0 };
-  faults = 0 }
+  faults = 0;
+}
 
 -- files as pairs of a name and bytes
 abbrev pub named_files : List (String Global × Vec ℕ Global) → List (List ℕ × List ℕ)

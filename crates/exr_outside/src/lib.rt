@@ -5,11 +5,14 @@
 
 mod calls;
 mod counts;
+mod file_sink;
+mod file_source;
 mod files;
 mod gate;
 mod mem_files;
 mod mem_sink;
 mod mem_source;
+mod real_files;
 mod shelf;
 mod sink;
 mod source;
@@ -17,11 +20,14 @@ mod transfer;
 mod world;
 
 pub use counts::rise;
+pub use file_sink::{FileSink, OutSink};
+pub use file_source::FileSource;
 pub use files::Files;
 pub use gate::{Gate, PlainGate};
 pub use mem_files::{Fails, MemFiles};
 pub use mem_sink::MemSink;
 pub use mem_source::MemSource;
+pub use real_files::RealFiles;
 pub use sink::{Printer, Sink};
 pub use source::Source;
 pub use transfer::{CutShort, append_all, read_all, read_full, write_all_at};

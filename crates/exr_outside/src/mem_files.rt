@@ -54,19 +54,20 @@ impl<W: World> Model for MemFiles<W> {
     ghost Value = { MemFilesState };
 
     ghost view = { λ f. record {
-        files = named_files f.files.items;
-        room = f.room;
-        open_calls = f.open_calls;
-        create_calls = f.create_calls;
-        lens = f.lens.items;
-        reads = f.reads.items;
-        appends = f.appends.items;
-        writes = f.writes.items;
-        opened = map string_bytes f.opened.items;
-        created = map string_bytes f.created.items;
-        kept = reverse (shelved_in f.kept);
-        read_faults = f.read_faults;
-        write_faults = f.write_faults } };
+      files = named_files f.files.items;
+      room = f.room;
+      open_calls = f.open_calls;
+      create_calls = f.create_calls;
+      lens = f.lens.items;
+      reads = f.reads.items;
+      appends = f.appends.items;
+      writes = f.writes.items;
+      opened = map string_bytes f.opened.items;
+      created = map string_bytes f.created.items;
+      kept = reverse (shelved_in f.kept);
+      read_faults = f.read_faults;
+      write_faults = f.write_faults;
+    } };
 
     ghost invariant = { λ f. AreOf W.bytes_of (named_files f.files.items) };
 }
@@ -139,19 +140,20 @@ impl<W: World> MemFiles<W> {
     ) -> Result<MemFiles<W>, NoMemory>
         requires { AreOf W.bytes_of (named_files files.items) }
         ensures { IfOk result (λ f. f ≡ record {
-            files = named_files files.items;
-            room = room;
-            open_calls = record { fails = fails.opens.items; made = 0 };
-            create_calls = record { fails = fails.creates.items; made = 0 };
-            lens = fails.lens.items;
-            reads = fails.reads.items;
-            appends = fails.appends.items;
-            writes = fails.writes.items;
-            opened = [];
-            created = [];
-            kept = [];
-            read_faults = 0;
-            write_faults = 0 }) }
+          files = named_files files.items;
+          room = room;
+          open_calls = record { fails = fails.opens.items; made = 0 };
+          create_calls = record { fails = fails.creates.items; made = 0 };
+          lens = fails.lens.items;
+          reads = fails.reads.items;
+          appends = fails.appends.items;
+          writes = fails.writes.items;
+          opened = [];
+          created = [];
+          kept = [];
+          read_faults = 0;
+          write_faults = 0;
+        }) }
     {
         let Fails {
             opens,
@@ -190,15 +192,17 @@ impl<W: World> MemFiles<W> {
 
 impl<W: World> Files<W> for MemFiles<W> {
     type In = MemSource;
+
     type Out = MemSink;
 
     ghost means = { record {
-        tells = true;
-        kept = λ f. f.kept;
-        opened = λ f. f.opened;
-        created = λ f. f.created;
-        read_faults = λ f. f.read_faults;
-        write_faults = λ f. f.write_faults } };
+      tells = true;
+      kept = λ f. f.kept;
+      opened = λ f. f.opened;
+      created = λ f. f.created;
+      read_faults = λ f. f.read_faults;
+      write_faults = λ f. f.write_faults;
+    } };
 
     fn open(&mut self, name: &str) -> Result<MemSource, Refusal<Failed>>
         ensures fails { FailsWhere result
@@ -209,9 +213,10 @@ impl<W: World> Files<W> for MemFiles<W> {
         ensures content { IfOk result (λ source. source.bytes ≡ W.bytes_of name.now) }
         ensures asked { NotesName result name.now self.old.opened self.new.opened }
         ensures state { self.new ≡ record self.old {
-            open_calls = counted self.old.open_calls;
-            opened = self.new.opened;
-            read_faults = failures_after result self.old.read_faults } }
+          open_calls = counted self.old.open_calls;
+          opened = self.new.opened;
+          read_faults = failures_after result self.old.read_faults;
+        } }
         ensures cause { CountsFailure self.old.read_faults self.new.read_faults result }
     {
         let named = self.open_calls.is_next_named();
@@ -231,9 +236,10 @@ impl<W: World> Files<W> for MemFiles<W> {
             sink ≡ new_sink name.now self.old.room self.old.appends self.old.writes) }
         ensures asked { NotesName result name.now self.old.created self.new.created }
         ensures state { self.new ≡ record self.old {
-            create_calls = counted self.old.create_calls;
-            created = self.new.created;
-            write_faults = failures_after result self.old.write_faults } }
+          create_calls = counted self.old.create_calls;
+          created = self.new.created;
+          write_faults = failures_after result self.old.write_faults;
+        } }
         ensures cause { CountsFailure self.old.write_faults self.new.write_faults result }
     {
         let named = self.create_calls.is_next_named();
@@ -256,8 +262,9 @@ impl<W: World> Files<W> for MemFiles<W> {
 
     fn back_out(&mut self, sink: MemSink)
         ensures state { self.new ≡ record self.old {
-            kept = self.old.kept ++ (sink.name, sink.bytes) ∷ [];
-            write_faults = self.new.write_faults } }
+          kept = self.old.kept ++ (sink.name, sink.bytes) ∷ [];
+          write_faults = self.new.write_faults;
+        } }
         ensures cause { CountsReturn sink.faults self.old.write_faults self.new.write_faults }
     {
         if sink.faults() > 0 {

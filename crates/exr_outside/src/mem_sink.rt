@@ -33,12 +33,13 @@ impl Model for MemSink {
     ghost Value = { MemSinkState };
 
     ghost view = { λ s. record {
-        name = string_bytes s.name;
-        bytes = s.bytes.items;
-        room = s.room;
-        append_calls = s.append_calls;
-        write_calls = s.write_calls;
-        faults = s.faults } };
+      name = string_bytes s.name;
+      bytes = s.bytes.items;
+      room = s.room;
+      append_calls = s.append_calls;
+      write_calls = s.write_calls;
+      faults = s.faults;
+    } };
 
     ghost invariant = { λ s. (vec_len s.bytes ≤ s.room) × (s.room ≤ vec_capacity s.bytes) };
 }
@@ -99,10 +100,11 @@ impl MemSink {
 
 impl Printer for MemSink {
     ghost means = { record {
-        tells = true;
-        name = λ s. s.name;
-        holds = λ s. s.bytes;
-        faults = λ s. s.faults } };
+      tells = true;
+      name = λ s. s.name;
+      holds = λ s. s.bytes;
+      faults = λ s. s.faults;
+    } };
 
     fn append(&mut self, bytes: &[u8]) -> Result<usize, Failed>
         ensures fails { IsErr result
@@ -111,9 +113,10 @@ impl Printer for MemSink {
         ensures whole { IfOk result (λ count. count ≡ min (length bytes.now) (self.old.room - length self.old.bytes)) }
         ensures failed { OnErr result (self.new.bytes ≡ self.old.bytes) }
         ensures state { self.new ≡ record self.old {
-            bytes = self.new.bytes;
-            append_calls = counted self.old.append_calls;
-            faults = faults_after result self.old.faults } }
+          bytes = self.new.bytes;
+          append_calls = counted self.old.append_calls;
+          faults = faults_after result self.old.faults;
+        } }
         ensures cause { HasCause self.old.faults self.new.faults result }
     {
         let named = self.append_calls.is_next_named();
@@ -144,9 +147,10 @@ impl Sink for MemSink {
         ensures part { OnErr result (ReplacesPrefix pos bytes.now self.old.bytes self.new.bytes) }
         ensures failed { OnErr result (self.new.bytes ≡ self.old.bytes) }
         ensures state { self.new ≡ record self.old {
-            bytes = self.new.bytes;
-            write_calls = counted self.old.write_calls;
-            faults = faults_after result self.old.faults } }
+          bytes = self.new.bytes;
+          write_calls = counted self.old.write_calls;
+          faults = faults_after result self.old.faults;
+        } }
         ensures cause { HasCause self.old.faults self.new.faults result }
     {
         if self.write_calls.is_next_named() {
