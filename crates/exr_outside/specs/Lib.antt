@@ -1,0 +1,7 @@
+pub mod Count
+pub mod Source
+pub mod Sink
+pub mod Files
+pub mod Fakes
+pub mod Transfer
+pub mod Shelf

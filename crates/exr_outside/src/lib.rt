@@ -1,0 +1,34 @@
+//! The outside: sources, sinks, sets of files and gates as traits that state what each call means and when it may
+//! fail; fakes in memory that fail exactly where they are told to; and thin adapters over real files. It promises
+//! that no call fails unless its object's count of failures rose.
+#![tactic(auto)]
+
+mod calls;
+mod counts;
+mod file_sink;
+mod file_source;
+mod files;
+mod gate;
+mod mem_files;
+mod mem_sink;
+mod mem_source;
+mod real_files;
+mod shelf;
+mod sink;
+mod source;
+mod transfer;
+mod world;
+
+pub use counts::rise;
+pub use file_sink::{FileSink, OutSink};
+pub use file_source::FileSource;
+pub use files::Files;
+pub use gate::{Gate, PlainGate};
+pub use mem_files::{Fails, MemFiles};
+pub use mem_sink::MemSink;
+pub use mem_source::MemSource;
+pub use real_files::RealFiles;
+pub use sink::{Printer, Sink};
+pub use source::Source;
+pub use transfer::{CutShort, append_all, read_all, read_full, write_all_at};
+pub use world::{RealWorld, World};
