@@ -157,8 +157,9 @@ pub record IsWindowSide (from to : ℤ) : Type 0 where
   pub high : to ≤ℤ pos (2 ^ 30)
   pub few : span_of from to ≤ 2 ^ 20
 
--- the window has pixels and keeps the limits, and so do a line and all lines
+-- the head keeps its limit, the window has pixels and keeps the limits, and so do a line and all lines
 pub record IsWithinLimits (h : Plain) : Type 0 where
+  pub head : h.bytes ≤ 2 ^ 24
   pub columns : IsWindowSide h.window.x0 h.window.x1
   pub rows : IsWindowSide h.window.y0 h.window.y1
   pub line : line_bytes_of h ≤ 2 ^ 26

@@ -2,3 +2,5 @@
 #![tactic(auto)]
 
 mod plain;
+
+pub use plain::{PlainHead, read_plain};

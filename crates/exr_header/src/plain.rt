@@ -6,6 +6,7 @@ ghost use Rattle.std.specs.Prelude.{◌≡◌, ◌==◌, ◌+◌, ◌*◌, ◌^�
 ghost use Rattle.std.specs.Option.{option_map};
 ghost use Rattle.std.specs.List.{position};
 ghost use Rattle.exr_base.specs.Sampling.{span_of};
+ghost use Rattle.exr_base.specs.Shape.{width_of, height_of};
 ghost use Rattle.exr_header.specs.Views.{texts_of, plain_of};
 ghost use Rattle.exr_header.specs.Plain.{fields_at, windows_at, unjudged_at, after, cut_at, number_at, attribute_at, sized_at, heading, name_at, channel_at, channels_at, last_name_of, box_of, plain_at, Plain, IsWindowSide, IsWithinLimits, HasPlainHead};
 
@@ -14,6 +15,9 @@ use std::alloc::Global;
 
 /// The most channels of a part (own).
 const MOST_CHANNELS: u32 = 1024;
+
+/// The most bytes of a head (own).
+const MOST_HEAD_BYTES: usize = 1 << 24;
 
 /// How far from 0 a coordinate lies at the most (own).
 const FURTHEST: i32 = 1 << 30;
@@ -238,6 +242,26 @@ pub struct PlainHead {
     pub bytes: usize,
 }
 
+impl PlainHead {
+    /// The pixels of a line of the data window.
+    pub fn width(&self) -> u64
+        requires { IsWithinLimits (plain_of self.now) }
+        ensures { result ≡ width_of self.now.window }
+    {
+        let window = self.window;
+        span(window.x0, window.x1)
+    }
+
+    /// The lines of the data window.
+    pub fn height(&self) -> u64
+        requires { IsWithinLimits (plain_of self.now) }
+        ensures { result ≡ height_of self.now.window }
+    {
+        let window = self.window;
+        span(window.y0, window.y1)
+    }
+}
+
 /// The plain head at the front of a file; None exactly where there is none there, or where it passes a limit: 2^26
 /// raw bytes a line, 2^30 in all.
 pub fn read_plain(alloc: Global, bytes: &[u8]) -> Result<Option<PlainHead>, NoMemory>
@@ -279,6 +303,9 @@ fn is_within_limits(head: &PlainHead) -> bool
     requires { vec_len head.now.channels ≤ 1024 }
     ensures { IsTrue result ↔ IsWithinLimits (plain_of head.now) }
 {
+    if head.bytes > MOST_HEAD_BYTES {
+        return false;
+    }
     let window = head.window;
     if !is_side(window.x0, window.x1) {
         return false;

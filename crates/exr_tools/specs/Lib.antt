@@ -1,0 +1,5 @@
+pub mod PlainFile
+pub mod Buffer
+pub mod Words
+pub mod Texts
+pub mod Read

@@ -1,0 +1,24 @@
+-- What the program prints, and the status that it ends with.
+use Rattle.std.specs.Prelude.{ℕ, List, [], ◌∷◌, ◌++◌, codes, decimal}
+use Rattle.exr_tools.specs.declared.stop.Stop.{Stop}
+use Rattle.exr_tools.specs.declared.stop.Stop.TheVariants.{NoMemory, Words, Read, Write, Form}
+
+-- the line that an extraction of so many bytes prints
+abbrev pub extract_line : ℕ → List ℕ
+extract_line count = codes "extract bytes " ++ decimal count ++ 10 ∷ []
+
+-- the status of a stop
+abbrev pub status_of : Stop → ℕ
+status_of NoMemory = 1
+status_of (Words position) = 2
+status_of Read = 4
+status_of Write = 5
+status_of Form = 7
+
+-- the line of a stop
+abbrev pub line_of : Stop → List ℕ
+line_of NoMemory = codes "exr: no memory" ++ 10 ∷ []
+line_of (Words position) = codes "exr: word " ++ decimal position ++ 10 ∷ []
+line_of Read = codes "exr: read fault" ++ 10 ∷ []
+line_of Write = codes "exr: write fault" ++ 10 ∷ []
+line_of Form = codes "exr: form" ++ 10 ∷ []

@@ -1,0 +1,9 @@
+//! The commands of `exr` over any files, any printer and any gate.
+#![tactic(auto)]
+
+mod plain_file;
+mod planes;
+mod stop;
+mod words;
+
+pub use stop::{Stop, stop_line};
