@@ -37,11 +37,12 @@ named_files-at files i file d below here =
 pub named_files-more : (bytes_of : List ℕ → List ℕ) (files : List (List ℕ × List ℕ)) (i : ℕ) (file : List ℕ × List ℕ) → ((k : ℕ) (d : List ℕ × List ℕ) → k < i → (get_or files k d).1 ≡ bytes_of (get_or files k d).0) → ((d : List ℕ × List ℕ) → get_or files i d ≡ file) → file.1 ≡ bytes_of file.0 → (k : ℕ) (d : List ℕ × List ℕ) → k < i + 1 → (get_or files k d).1 ≡ bytes_of (get_or files k d).0
 named_files-more bytes_of files i file before here right k d below =
     elim (cases_lt k i) [
-      inl less ↦ before k d less
-    | inr more ↦
-        let same : k ≡ i = omega arith in
-        let P : List ℕ × List ℕ → Type 0 = λ f. f.1 ≡ bytes_of f.0 in
-        subst P (sym (ap (λ (n : ℕ). get_or files n d) same ∙ here d)) right ]
+      | inl less ↦ before k d less
+      | inr more ↦
+          let same : k ≡ i = omega arith in
+          let P : List ℕ × List ℕ → Type 0 = λ f. f.1 ≡ bytes_of f.0 in
+          subst P (sym (ap (λ (n : ℕ). get_or files n d) same ∙ here d)) right
+    ]
 
 pub length-named_files : (files : List (String Global × Vec ℕ Global)) → length (named_files files) ≡ length files
 length-named_files files = length-map files (λ (f : String Global × Vec ℕ Global). (string_bytes f.0, f.1.items))

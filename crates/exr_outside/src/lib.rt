@@ -16,6 +16,8 @@ mod real_files;
 mod shelf;
 mod sink;
 mod source;
+#[cfg(test)]
+mod tests;
 mod transfer;
 mod world;
 
