@@ -159,7 +159,10 @@ fn outcome_of(
 fn copies_in_memory(rt: HostRuntime) -> Result<(), Fail> {
     for (from, room, named, read_faults, write_faults, kept) in ROWS {
         let outcome = outcome_of(&rt, rt.alloc(), from, room, named)?;
-        assert_eq!(rt; outcome.answer.is_ok(), read_faults + write_faults == 0);
+        assert_eq!(rt;
+            outcome.answer.is_ok(),
+            read_faults == 0 && write_faults == 0
+        );
         assert_eq!(rt; outcome.read_faults, read_faults);
         assert_eq!(rt; outcome.write_faults, write_faults);
         let held = outcome.kept.as_ref().map(|bytes| bytes.as_slice());
