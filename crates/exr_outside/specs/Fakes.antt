@@ -1,5 +1,5 @@
 -- What the objects in memory are: lists of bytes, the calls that are to fail, and the counts of calls and failures.
-use Rattle.std.specs.Prelude.{◌≡◌, ℕ, String, Vec, string_bytes, All, map, List, [], Option, option_map, find, bytes_eq, Result, Ok, Err, Contains}
+use Rattle.std.specs.Prelude.{◌≡◌, ℕ, String, Vec, string_bytes, All, map, List, [], Option, option_map, unwrap_or, find, bytes_eq, Result, Ok, Err, Contains}
 use Rattle.std.specs.declared.alloc.Global.{Global}
 use Rattle.exr_base.specs.declared.refusal.Refusal.{Refusal}
 use Rattle.exr_base.specs.declared.refusal.Refusal.TheVariants as refusal
@@ -85,6 +85,10 @@ AreOf bytes_of files = All (λ file. file.1 ≡ bytes_of file.0) files
 -- the bytes of the first file of this name, by pairs of a name and bytes
 abbrev pub file_of : List (List ℕ × List ℕ) → List ℕ → Option (List ℕ)
 file_of files name = option_map (λ file. file.1) (find (λ file. bytes_eq file.0 name) files)
+
+-- the same, and no bytes where there is no such file
+abbrev pub bytes_under : List (List ℕ × List ℕ) → List ℕ → List ℕ
+bytes_under files name = unwrap_or (file_of files name) []
 
 -- files in memory
 pub record MemFilesState : Type 0 where

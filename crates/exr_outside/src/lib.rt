@@ -16,6 +16,8 @@ mod real_files;
 mod shelf;
 mod sink;
 mod source;
+#[cfg(test)]
+mod tests;
 mod transfer;
 mod world;
 
@@ -24,7 +26,7 @@ pub use file_sink::{FileSink, OutSink};
 pub use file_source::FileSource;
 pub use files::Files;
 pub use gate::{Gate, PlainGate};
-pub use mem_files::{Fails, MemFiles};
+pub use mem_files::{Fails, MemFiles, are_of_one_world};
 pub use mem_sink::MemSink;
 pub use mem_source::MemSource;
 pub use real_files::RealFiles;

@@ -1,9 +1,9 @@
 //! Files in memory: what there is to open, which calls are to fail, and all that was asked and given back.
 
-ghost use Rattle.std.specs.Prelude.{◌≡◌, ◌⊎◌, ◌+◌, ◌++◌, [], ◌∷◌, map, true, IsNone, IfOk, OnOk, OnErr, Some, All, option_map, reverse, string_bytes};
+ghost use Rattle.std.specs.Prelude.{◌≡◌, ◌↔◌, ◌⊎◌, IsTrue, ◌+◌, ◌++◌, [], ◌∷◌, map, true, IsNone, IfOk, OnOk, OnErr, Some, All, option_map, reverse, string_bytes};
 ghost use Rattle.exr_outside.specs.Count.{CountsFailure, CountsReturn};
 ghost use Rattle.exr_outside.specs.Files.{NotesName};
-ghost use Rattle.exr_outside.specs.Fakes.{IsNamed, counted, FailsWhere, failures_after, named_files, AreOf, file_of, new_source, new_sink};
+ghost use Rattle.exr_outside.specs.Fakes.{IsNamed, counted, FailsWhere, failures_after, named_files, AreOf, bytes_under, file_of, new_source, new_sink};
 
 use crate::calls::Calls;
 use crate::counts::{count_failure, count_refusal};
@@ -92,6 +92,29 @@ fn find_file<'a>(files: &'a [(String, Vec<u8>)], name: &str) -> Option<&'a [u8]>
         }
     }
     None
+}
+
+// Whether the first file of the name has these bytes.
+fn is_found(files: &[(String, Vec<u8>)], name: &str, bytes: &[u8]) -> bool
+    ensures { IsTrue result ↔ (bytes.now ≡ bytes_under (named_files files.now) name.now) }
+{
+    match find_file(files, name) {
+        Some(found) => bytes == found,
+        None => bytes.is_empty(),
+    }
+}
+
+/// Whether each file is the one that is found under its name, as where their names are distinct. Then there is a world
+/// of which they are, the one that gives what is found.
+pub fn are_of_one_world(files: &[(String, Vec<u8>)]) -> bool
+    ensures { IsTrue result ↔ AreOf (bytes_under (named_files files.now)) (named_files files.now) }
+{
+    for (name, bytes) in files {
+        if !is_found(files, name.as_str(), bytes) {
+            return false;
+        }
+    }
+    true
 }
 
 // A new source over the first file of a name; it fails just where there is none.
