@@ -11,18 +11,18 @@ first_left keys i word lt is =
     ap texts_of e ∙ ap (λ w. string_bytes w ∷ texts_of (drop (i + 1) keys)) (sym is)
 
 step : (place : ℕ) (g : Given) (keys : List (String Global)) (i : ℕ) (word : String Global) (o : Option Given) → i < length keys → word ≡ get_or keys i word → given_with g (string_bytes word) ≡ o
-  → read_from place g (texts_of (drop i keys)) ≡ read_on place o (λ more. read_from (place + 1) more (texts_of (drop (i + 1) keys)))
+    → read_from place g (texts_of (drop i keys)) ≡ read_on place o (λ more. read_from (place + 1) more (texts_of (drop (i + 1) keys)))
 unfolding read_from
 step place g keys i word o lt is e =
     ap (read_from place g) (first_left keys i word lt is) ∙ ap (λ o. read_on place o (λ more. read_from (place + 1) more (texts_of (drop (i + 1) keys)))) e
 
 pub goes_on : (place : ℕ) (g more : Given) (keys : List (String Global)) (i : ℕ) (word : String Global) (total : Result Extract ℕ) → i < length keys → word ≡ get_or keys i word → given_with g (string_bytes word) ≡ Some more
-  → read_from place g (texts_of (drop i keys)) ≡ total → read_from (place + 1) more (texts_of (drop (i + 1) keys)) ≡ total
+    → read_from place g (texts_of (drop i keys)) ≡ total → read_from (place + 1) more (texts_of (drop (i + 1) keys)) ≡ total
 goes_on place g more keys i word total lt is allowed so_far =
     sym (step place g keys i word (Some more) lt is allowed) ∙ so_far
 
 pub stops : (place : ℕ) (g : Given) (keys : List (String Global)) (i : ℕ) (word : String Global) (total : Result Extract ℕ) → i < length keys → word ≡ get_or keys i word → given_with g (string_bytes word) ≡ None
-  → read_from place g (texts_of (drop i keys)) ≡ total → total ≡ Err place
+    → read_from place g (texts_of (drop i keys)) ≡ total → total ≡ Err place
 stops place g keys i word total lt is refused so_far =
     sym so_far ∙ step place g keys i word None lt is refused
 

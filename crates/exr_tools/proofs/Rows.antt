@@ -23,7 +23,7 @@ above w j k n old ys lt within len e =
 pub other_row : (w j k n : ℕ) (old ys : List ℕ) → j ≢ k → k * w + w ≤ length old → length ys ≡ n → n ≡ w → row_of w j (put_mid (k * w) n old ys) ≡ row_of w j old
 other_row w j k n old ys ne within len e =
     elim (cases_lt j k) [
-      inl lt ↦ below w j k n old ys lt (omega arith)
+      | inl lt ↦ below w j k n old ys lt (omega arith)
       | inr le ↦ above w j k n old ys (omega arith) (omega arith) len e
     ]
 

@@ -27,11 +27,11 @@ pub few_channels : (c w : ℕ) → 1 ≤ w → 2 * c * w ≤ 2 ^ 26 → c ≤ 2 
 few_channels c w some le = omega (arith, mul-le c 1 c w (omega arith) some)
 
 pub all_placed : (file : List ℕ) (h : Plain) (buffer : List ℕ) → IsPlainFile file h → length buffer ≡ length h.channels * height_of h.window * (2 * width_of h.window)
-  → ((c r : ℕ) → c < length h.channels → r < height_of h.window → row_of (2 * width_of h.window) (c * height_of h.window + r) buffer ≡ row_of (2 * width_of h.window) c (line_in file (lines_of h) r))
-  → IsBuffer file h buffer
+    → ((c r : ℕ) → c < length h.channels → r < height_of h.window → row_of (2 * width_of h.window) (c * height_of h.window + r) buffer ≡ row_of (2 * width_of h.window) c (line_in file (lines_of h) r))
+    → IsBuffer file h buffer
 all_placed file h buffer plain len rows = record {
-    size = omega arith;
-    samples = λ c column row c_in column_in row_in.
+  size = omega arith;
+  samples = λ c column row c_in column_in row_in.
       let within : 2 * column + 2 ≤ 2 * width_of h.window = omega arith in
       let here = sample_in_row (2 * width_of h.window) (c * height_of h.window + row) column buffer within in
       let there = sample_in_row (2 * width_of h.window) c column (line_in file (lines_of h) row) within in
@@ -40,13 +40,13 @@ all_placed file h buffer plain len rows = record {
       let place : place_in_buffer h c column row ≡ (c * height_of h.window + row) * (2 * width_of h.window) + 2 * column = omega arith in
       let part : c * (2 * width_of h.window) + 2 * column ≡ 2 * (c * width_of h.window + column) = omega arith in
       ap (λ at. take 2 (drop at buffer)) place ∙ sym here ∙ same ∙ there ∙ ap (λ at. take 2 (drop at (line_in file (lines_of h) row))) part ∙ ap (λ xs. take 2 (drop (2 * (c * width_of h.window + column)) xs)) raw;
-  }
+}
 
 -- the same from the numbers that the code computes
 pub by_lines : (file : List ℕ) (h : Plain) (buffer : List ℕ) (l : Lines) (channels w : ℕ) → IsPlainFile file h → l ≡ lines_of h → channels ≡ length h.channels → w ≡ 2 * width_of h.window
-  → length buffer ≡ size_of h
-  → ((c r : ℕ) → c < channels → r < l.count → row_of w (c * l.count + r) buffer ≡ row_of w c (line_in file l r))
-  → IsBuffer file h buffer
+    → length buffer ≡ size_of h
+    → ((c r : ℕ) → c < channels → r < l.count → row_of w (c * l.count + r) buffer ≡ row_of w c (line_in file l r))
+    → IsBuffer file h buffer
 by_lines file h buffer l channels w plain e f g len rows =
     let lined = subst (λ (l : Lines). (c r : ℕ) → c < channels → r < l.count → row_of w (c * l.count + r) buffer ≡ row_of w c (line_in file l r)) e rows in
     let counted = subst (λ n. (c r : ℕ) → c < n → r < height_of h.window → row_of w (c * height_of h.window + r) buffer ≡ row_of w c (line_in file (lines_of h) r)) f lined in

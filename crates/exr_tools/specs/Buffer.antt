@@ -18,7 +18,7 @@ size_of h = 2 * (length h.channels * height_of h.window * width_of h.window)
 pub record IsBuffer (file : List ℕ) (h : Plain) (buffer : List ℕ) : Type 0 where
   pub size : length buffer ≡ size_of h
   pub samples : (c column row : ℕ) → c < length h.channels → column < width_of h.window → row < height_of h.window
-    → take 2 (drop (place_in_buffer h c column row) buffer) ≡ sample_of file h c column row
+      → take 2 (drop (place_in_buffer h c column row) buffer) ≡ sample_of file h c column row
 
 -- row k of a list in rows of w bytes
 abbrev pub row_of : ℕ → ℕ → List ℕ → List ℕ

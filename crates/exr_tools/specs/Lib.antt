@@ -3,3 +3,4 @@ pub mod Buffer
 pub mod Words
 pub mod Texts
 pub mod Read
+pub mod Run

@@ -11,8 +11,8 @@ texts_of words = map string_bytes words
 abbrev pub value_of : List ℕ → List ℕ → Option (List ℕ)
 value_of key word =
     if starts_with nat_eq word key && nat_lt (length key) (length word)
-      then Some (drop (length key) word)
-      else None
+    then Some (drop (length key) word)
+    else None
 
 -- the operands of a key, in their order
 abbrev pub operands_of : List ℕ → List (List ℕ) → List (List ℕ)
@@ -67,5 +67,5 @@ abbrev pub order_of : List (List ℕ) → Result Extract ℕ
 order_of [] = Err 0
 order_of (command ∷ words) =
     if bytes_eq command (codes "extract")
-      then read_from 1 nothing words
-      else Err 0
+    then read_from 1 nothing words
+    else Err 0

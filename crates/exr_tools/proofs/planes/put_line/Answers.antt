@@ -25,7 +25,7 @@ loop-channel-preserved c =
     let others = rw c.row_at.ensures.len at c.put_row.ensures.others in
     record {
       put = below_more _ _
-        (λ k lt. others (k * c.args.rows + c.args.row) (apart k c.args.row c.loop-channel.channel c.args.row c.args.rows c.requires.row c.requires.row (inl (omega arith))) ∙ c.loop-channel.invariant.put k lt)
-        (put ∙ c.row_at.ensures.row);
+          (λ k lt. others (k * c.args.rows + c.args.row) (apart k c.args.row c.loop-channel.channel c.args.row c.args.rows c.requires.row c.requires.row (inl (omega arith))) ∙ c.loop-channel.invariant.put k lt)
+          (put ∙ c.row_at.ensures.row);
       others = λ k r within ne. others (k * c.args.rows + r) (apart k r c.loop-channel.channel c.args.row c.args.rows within c.requires.row (inr ne)) ∙ c.loop-channel.invariant.others k r within ne;
     }

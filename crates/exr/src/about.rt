@@ -1,0 +1,58 @@
+//! What the program says of itself.
+
+const HELP: &str = "\
+exr reads OpenEXR files. Each command is a line of words KEY=VALUE.
+
+  exr extract in=a.exr out=b.raw
+      Writes the samples of a.exr into b.raw: a plane a channel, one behind the
+      other, each row by row from the top, every sample as it stands in the file.
+      So far a.exr has one part of scan lines with HALF channels of raw data, the
+      eight needed attributes alone and in order, and its chunks in order.
+
+  exr --help       this text
+  exr --version    the version
+
+The status is 0, or says why the program stopped:
+  1  no memory
+  2  a word is not allowed, or one is missing; the line says which, from 0
+  4  a file could not be opened or read
+  5  a file or standard output could not be written
+  7  the file is none of those above
+";
+
+const VERSION: &str = "exr 0.1.0\n";
+
+/// The text that answers a word, where it asks for one.
+pub fn text(word: &str) -> Option<&'static str> {
+    match word {
+        "--help" => Some(HELP),
+        "--version" => Some(VERSION),
+        _ => None,
+    }
+}
+
+#[cfg(test)]
+mod tests {
+    use super::text;
+    use std::test::Fail;
+
+    #[test]
+    fn help_and_version(rt: HostRuntime) -> Result<(), Fail> {
+        let help = text("--help").ok_or("a text")?;
+        assert!(rt; help.ends_with("\n"));
+        for line in help.lines() {
+            assert!(rt; line.len() <= 80, "{line}");
+        }
+        for word in [
+            "exr extract in=a.exr out=b.raw",
+            "--help",
+            "--version",
+            "  7  ",
+        ] {
+            assert!(rt; help.contains(word), "{word}");
+        }
+        assert_eq!(rt; text("--version").ok_or("a text")?, "exr 0.1.0\n");
+        assert!(rt; text("help").is_none());
+        Ok(())
+    }
+}
