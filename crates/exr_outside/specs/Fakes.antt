@@ -14,6 +14,10 @@ pub record CallState : Type 0 where
 abbrev pub IsNamed : CallState → Type 0
 IsNamed calls = Contains calls.fails calls.made
 
+-- no call is named as one that is to fail
+abbrev pub IsUnnamed : CallState → Type 0
+IsUnnamed calls = calls.fails ≡ []
+
 -- the calls after one more
 abbrev pub counted : CallState → CallState
 counted calls = record calls { made = one_more calls.made }

@@ -3,7 +3,7 @@
 ghost use Rattle.std.specs.Prelude.{◌≡◌, ◌↔◌, ◌⊎◌, ◌+◌, ◌-◌, ◌<◌, ◌≤◌, ◌∷◌, ◌++◌, min, true, IsErr, IfOk, OnOk, OnErr, length, take};
 ghost use Rattle.exr_outside.specs.Count.{HasCause};
 ghost use Rattle.exr_outside.specs.Sink.{replaced, ReplacesPrefix};
-ghost use Rattle.exr_outside.specs.Fakes.{IsNamed, counted, faults_after, new_sink};
+ghost use Rattle.exr_outside.specs.Fakes.{IsNamed, IsUnnamed, counted, faults_after, new_sink};
 
 use crate::calls::Calls;
 use crate::counts::count_failure;
@@ -27,8 +27,8 @@ pub struct MemSink {
 }
 
 impl Model for MemSink {
-    ghost use Rattle.std.specs.Prelude.{◌≤◌, string_bytes, vec_capacity, vec_len};
-    ghost use Rattle.exr_outside.specs.Fakes.{MemSinkState};
+    ghost use Rattle.std.specs.Prelude.{◌<◌, ◌≤◌, string_bytes, vec_capacity, vec_len};
+    ghost use Rattle.exr_outside.specs.Fakes.{MemSinkState, IsUnnamed};
 
     ghost Value = { MemSinkState };
 
@@ -41,7 +41,9 @@ impl Model for MemSink {
       faults = s.faults;
     } };
 
-    ghost invariant = { λ s. (vec_len s.bytes ≤ s.room) × (s.room ≤ vec_capacity s.bytes) };
+    ghost invariant = { λ s. (vec_len s.bytes ≤ s.room)
+        × (s.room ≤ vec_capacity s.bytes)
+        × (IsUnnamed s.append_calls → IsUnnamed s.write_calls → 0 < s.faults → s.room ≤ vec_len s.bytes) };
 }
 
 impl MemSink {
@@ -129,7 +131,11 @@ impl Printer for MemSink {
         Ok(count)
     }
 
-    fn faults(&self) -> u64 {
+    fn faults(&self) -> u64
+        ensures value { result ≡ self.now.faults }
+        ensures unnamed { IsUnnamed self.now.append_calls → IsUnnamed self.now.write_calls
+            → 0 < result → self.now.room ≤ length self.now.bytes }
+    {
         self.faults
     }
 }

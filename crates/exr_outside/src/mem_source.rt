@@ -3,7 +3,7 @@
 ghost use Rattle.std.specs.Prelude.{◌≡◌, ◌↔◌, ◌-◌, min, true, IsErr, IfOk, length};
 ghost use Rattle.exr_outside.specs.Count.{HasCause};
 ghost use Rattle.exr_outside.specs.Source.{ReadsPiece};
-ghost use Rattle.exr_outside.specs.Fakes.{IsNamed, counted, faults_after, new_source};
+ghost use Rattle.exr_outside.specs.Fakes.{IsNamed, IsUnnamed, counted, faults_after, new_source};
 
 use crate::Source;
 use crate::calls::Calls;
@@ -24,8 +24,8 @@ pub struct MemSource {
 }
 
 impl Model for MemSource {
-    ghost use Rattle.std.specs.Prelude.{string_bytes};
-    ghost use Rattle.exr_outside.specs.Fakes.{MemSourceState};
+    ghost use Rattle.std.specs.Prelude.{◌≡◌, string_bytes};
+    ghost use Rattle.exr_outside.specs.Fakes.{MemSourceState, IsUnnamed};
 
     ghost Value = { MemSourceState };
 
@@ -36,6 +36,8 @@ impl Model for MemSource {
       read_calls = s.read_calls;
       faults = s.faults;
     } };
+
+    ghost invariant = { λ s. IsUnnamed s.len_calls → IsUnnamed s.read_calls → s.faults ≡ 0 };
 }
 
 impl MemSource {
@@ -107,7 +109,10 @@ impl Source for MemSource {
         Ok(count)
     }
 
-    fn faults(&self) -> u64 {
+    fn faults(&self) -> u64
+        ensures value { result ≡ self.now.faults }
+        ensures unnamed { IsUnnamed self.now.len_calls → IsUnnamed self.now.read_calls → result ≡ 0 }
+    {
         self.faults
     }
 }

@@ -1,4 +1,4 @@
-use Rattle.std.proofs.Common.{[], ◌≡◌, ℕ, ◌<◌, ◌≤◌, List, length, slice_index_or, string_bytes, refl, arith, rules}
+use Rattle.std.proofs.Common.{[], ◌≡◌, ℕ, ◌<◌, List, length, string_bytes, refl, arith, rules}
 use Rattle.exr_outside.specs.Fakes.{named_files, bytes_under}
 use Rattle.exr_outside.proofs.Found.{named_files-at, named_files-more, length-named_files}
 use Rattle.exr_outside.proofs.mem_files.are_of_one_world.Goals as goal
