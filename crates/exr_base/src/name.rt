@@ -14,7 +14,8 @@ use std::cmp::Ordering;
 use std::hash::{Hash, Hasher};
 use std::marker::Model;
 
-/// The most bytes that a name has: long names of File Layout, "Version Field".
+/// The most bytes that a name has: a long name, by File Layout, "Components One and Two: Magic Number and Version
+/// Field".
 const LONGEST: usize = 255;
 
 /// A name: 1 to 255 bytes, none of them zero, kept in the value itself.

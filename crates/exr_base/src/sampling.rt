@@ -1,6 +1,7 @@
 //! Where a channel has samples: at the multiples of its sampling, negative ones too.
 //!
-//! File Layout, "Predefined Attribute Types" (chlist: xSampling, ySampling); Technical Introduction, "Scan Lines".
+//! File Layout, "Predefined Attribute Types" (chlist: xSampling, ySampling); Technical Introduction, "Image
+//! channels and sampling rates".
 
 ghost use Rattle.std.specs.Prelude.{◌≡◌, ◌≤◌, ◌<◌, ◌^◌, pos, neg_ℤ, ◌≤ℤ◌, ◌-ℤ◌};
 ghost use Rattle.exr_base.specs.Sampling.{IsFirstSample, sample_count_of};

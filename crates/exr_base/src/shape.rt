@@ -28,7 +28,7 @@ impl<'a> Shape<'a> {
     /// The number of raw bytes of the region: of each channel a sample of 2 or 4 bytes for each pixel whose x and
     /// y are multiples of the channel's samplings.
     ///
-    /// File Layout, "Scan Line Image: Chunk Layout" and "Predefined Attribute Types" (chlist).
+    /// File Layout, "Regular scan line image block layout" and "Predefined Attribute Types" (chlist).
     pub fn raw_size(&self) -> u64
         requires { IsShape self.now.channels.now self.now.region }
         ensures { result ≡ raw_size_of self.now.channels.now self.now.region }

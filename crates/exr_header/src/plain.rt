@@ -1,6 +1,6 @@
 //! The plainest head, read from the front of a file. Each reader takes bytes and gives what it read and the rest.
 //!
-//! File Layout, "Header", "Predefined Attributes" and "Predefined Attribute Types".
+//! File Layout, "Component Three: Header" and "Predefined Attribute Types".
 
 ghost use Rattle.std.specs.Prelude.{◌≡◌, ◌==◌, ◌+◌, ◌*◌, ◌^◌, ◌<◌, ◌≤◌, IfOk, IfSome, IfNone, ◌≤ℤ◌, vec_len, Some, None, length, codes, [], ◌∷◌, IsTrue, ◌↔◌};
 ghost use Rattle.std.specs.Option.{option_map};

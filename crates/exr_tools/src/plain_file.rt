@@ -1,6 +1,7 @@
 //! The plainest file: whether bytes behind a plain head are its table and its chunks.
 //!
-//! File Layout, "Offset Tables" and "Chunks"; that the chunks stand in order behind the table is asked here alone.
+//! File Layout, "Component Four: Offset Tables" and "Component Five: Pixel data"; that the chunks stand in order
+//! behind the table is asked here alone (own).
 
 ghost use Rattle.std.specs.Prelude.{◌≡◌, ◌+◌, ◌*◌, ◌<◌, ◌≤◌, ◌^◌, ◌↔◌, IsTrue, length, take, drop, pos, ◌+ℤ◌};
 ghost use Rattle.std.specs.Int.{w32, w64, from_le_bytes, cast_signed};

@@ -1,0 +1,5 @@
+//! Tests that cross crates: commands over files in memory, with the calls that fail by number.
+#![tactic(auto)]
+
+#[cfg(test)]
+mod tests;

@@ -1,0 +1,5 @@
+//! The top call over files in memory.
+
+mod files;
+mod runs;
+mod table;

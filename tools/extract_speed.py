@@ -1,0 +1,74 @@
+#!/usr/bin/env python3
+"""Measures `exr extract` on a plain file of 4096 by 2048 pixels with four HALF channels (64 MiB of samples), on a tmpfs,
+beside a C twin of the same reads, copies and writes (gcc -O2) and beside `cp`, in one run. Prints the table of
+docs/PERFORMANCE.md: the ratio of the least times, and the peak memory.
+
+Use: tools/extract_speed.py [ROUNDS], at the top of the repository, after `rt ci exr` has built the program.
+"""
+import os, struct, subprocess, sys, tempfile, time
+
+ROUNDS = int(sys.argv[1]) if len(sys.argv) > 1 else 15
+WIDTH, HEIGHT, NAMES = 4096, 2048, ["A", "B", "G", "R"]
+PROGRAM = os.path.abspath("crates/exr/out/exr")
+TWIN = os.path.abspath("tools/twins/extract_planes.c")
+
+
+def attribute(name, kind, value):
+    return name + b"\0" + kind + b"\0" + struct.pack("<i", len(value)) + value
+
+
+def head():
+    listed = b"".join(n.encode() + b"\0" + struct.pack("<iIii", 1, 0, 1, 1) for n in NAMES) + b"\0"
+    window = struct.pack("<4i", 0, 0, WIDTH - 1, HEIGHT - 1)
+    one = struct.pack("<f", 1.0)
+    return (b"\x76\x2f\x31\x01\x02\0\0\0" + attribute(b"channels", b"chlist", listed)
+            + attribute(b"compression", b"compression", b"\0") + attribute(b"dataWindow", b"box2i", window)
+            + attribute(b"displayWindow", b"box2i", window) + attribute(b"lineOrder", b"lineOrder", b"\0")
+            + attribute(b"pixelAspectRatio", b"float", one) + attribute(b"screenWindowCenter", b"v2f", bytes(8))
+            + attribute(b"screenWindowWidth", b"float", one) + b"\0")
+
+
+def make(name):
+    front, line = head(), 2 * WIDTH * len(NAMES)
+    first = len(front) + 8 * HEIGHT
+    with open(name, "wb") as file:
+        file.write(front)
+        file.write(b"".join(struct.pack("<Q", first + y * (8 + line)) for y in range(HEIGHT)))
+        for y in range(HEIGHT):
+            file.write(struct.pack("<iI", y, line) + os.urandom(64) * (line // 64))
+    return len(front)
+
+
+def timed(words):
+    begin = time.perf_counter()
+    child = subprocess.Popen(words, stdout=subprocess.DEVNULL)
+    _, status, usage = os.wait4(child.pid, 0)
+    took = time.perf_counter() - begin
+    if status != 0:
+        sys.exit(f"{words[0]} ended with status {status}")
+    return took, usage.ru_maxrss
+
+
+with tempfile.TemporaryDirectory(dir="/dev/shm") as folder:
+    source, planes, twin_planes, copy = (os.path.join(folder, n) for n in ("in.exr", "out.raw", "twin.raw", "copy"))
+    twin = os.path.join(folder, "twin")
+    subprocess.run(["gcc", "-O2", "-o", twin, TWIN], check=True)
+    front = make(source)
+    kinds = {
+        "exr extract": [PROGRAM, "extract", "in=" + source, "out=" + planes],
+        "C twin": [twin, source, twin_planes, str(front), str(WIDTH), str(HEIGHT), str(len(NAMES))],
+        "cp": ["cp", source, copy],
+    }
+    least = {kind: (float("inf"), 0) for kind in kinds}
+    for _ in range(ROUNDS):
+        for kind, words in kinds.items():
+            took, peak = timed(words)
+            least[kind] = (min(least[kind][0], took), max(least[kind][1], peak))
+    if open(planes, "rb").read() != open(twin_planes, "rb").read():
+        sys.exit("the two buffers differ")
+    size = os.path.getsize(source)
+    print("| what | ratio to the C twin | ratio to `cp` | peak memory, MiB |")
+    print("|---|---|---|---|")
+    for kind, (took, peak) in least.items():
+        print(f"| {kind} | {took / least['C twin'][0]:.2f} | {took / least['cp'][0]:.2f} | {peak / 1024:.1f} |")
+    print(f"\nThe file has {size / 2**20:.1f} MiB and the buffer {(size - front - 16 * HEIGHT) / 2**20:.1f} MiB.")
