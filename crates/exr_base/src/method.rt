@@ -68,7 +68,7 @@ impl Method {
 
     /// How many scan lines a block of a scan-line part has, but for the last block of the part.
     ///
-    /// File Layout, "Component Five: Pixel data".
+    /// File Layout, "Regular Scan Line Blocks".
     pub fn lines(self) -> u32
         ensures { result ≡ lines_of self }
     {
