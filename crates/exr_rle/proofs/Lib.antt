@@ -1,0 +1,9 @@
+pub mod Worked
+pub mod Walk
+pub mod Puts
+pub mod Sixteen
+pub mod Places
+pub mod Finding
+pub mod Writer
+pub mod Laws
+pub mod RoundTrip

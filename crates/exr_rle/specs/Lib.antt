@@ -1,0 +1,4 @@
+pub mod Token
+pub mod Unpacked
+pub mod Packed
+pub mod Lanes
