@@ -2,6 +2,8 @@
 //! decoder that finds the one code that begins a window of bits.
 #![tactic(auto)]
 
+mod decoder;
 mod laws;
+
 
 pub use laws::codes_are_prefix_free;
