@@ -88,16 +88,19 @@ abbrev pub start_of : List ℕ → ℕ → ℕ
 start_of lengths k = weight_above (get_or lengths k 0) lengths + count_of (get_or lengths k 0) (take k lengths) * 2 ^ (58 - get_or lengths k 0)
 
 module _ (lengths : List ℕ) (complete : IsComplete lengths) where
+  -- what the longer codes take is a multiple of what one code takes
+  pub weight_above_exact : (len : ℕ) → len ≤ 58 → weight_above len lengths / 2 ^ (58 - len) * 2 ^ (58 - len) ≡ weight_above len lengths
+  weight_above_exact len short =
+      let w = 2 ^ (58 - len) in
+      let h = rest_is_multiple len lengths short complete.short in
+      let total : 2 ^ 58 ≡ 2 ^ len * w = let e : 58 ≡ len + (58 - len) = omega arith in ap (λ n. 2 ^ n) e ∙ pow-add 2 len (58 - len) in
+      exact_quotient (2 ^ 58) (weight_above len lengths) h.0 w (2 ^ len) (pow_pos (58 - len)) (sym complete.full ∙ h.1) total
+
   -- a code's number, moved up to 58 bits, is where its interval begins
   pub code_number_start : (k : ℕ) → code_number lengths k * 2 ^ (58 - get_or lengths k 0) ≡ start_of lengths k
   unfolding code_number
   code_number_start k =
-      let len = get_or lengths k 0 in
-      let w = 2 ^ (58 - len) in
-      let short : len ≤ 58 = complete.short k in
-      let h = rest_is_multiple len lengths short complete.short in
-      let total : 2 ^ 58 ≡ 2 ^ len * w = let e : 58 ≡ len + (58 - len) = omega arith in ap (λ n. 2 ^ n) e ∙ pow-add 2 len (58 - len) in
-      let exact = exact_quotient (2 ^ 58) (weight_above len lengths) h.0 w (2 ^ len) (pow_pos (58 - len)) (sym complete.full ∙ h.1) total in
+      let exact = weight_above_exact (get_or lengths k 0) (complete.short k) in
       omega (arith, exact)
 
   end_of_interval : (k : ℕ) → 0 < get_or lengths k 0 → start_of lengths k + 2 ^ (58 - get_or lengths k 0) ≤ weight_above (get_or lengths k 0 - 1) lengths

@@ -3,7 +3,9 @@
 #![tactic(auto)]
 
 mod decoder;
+mod fast;
 mod laws;
+mod order;
 
-
+pub use decoder::{Decoder, Found};
 pub use laws::codes_are_prefix_free;
