@@ -1,12 +1,13 @@
 -- What a decoder's tables say is the code that begins a window.
 use Rattle.std.proofs.Common.{◌≡◌, ◌≢◌, ℕ, zero, suc, ◌+◌, ◌-◌, ◌*◌, ◌/◌, ◌%◌, ◌^◌, ◌<◌, ◌≤◌, ◌⊎◌, List, [], ◌∷◌, ◌++◌, length, take, drop, get_or, refl, sym, ap, ◌∙◌, ap₂, subst, inl, inr, arith}
-use Rattle.std.proofs.Math.Nat.{mul_comm, add-mul-div_right, lt-div-mul-add}
+use Rattle.std.proofs.Math.Nat.{mul_comm, mul_assoc, mul-div_cancel, add-mul-div_right, lt-div-mul-add}
 use Rattle.std.proofs.lemmas.Nat.{pow_pos, pow-add, div_below, shr-shr, div-mul-add}
+use Rattle.std.proofs.lemmas.List.{length-take-le, length-drop, get_or-take, get_or-drop}
 use Rattle.exr_codes.specs.Codes.{weight_of, weight_above, count_of, code_number, IsComplete}
-use Rattle.exr_codes.specs.Decoding.{count_above, IsRanked, IsInOrder, AreStarts, IsShortCode, IsLongFront, IsFastAt, AreFast}
+use Rattle.exr_codes.specs.Decoding.{count_above, IsRanked, IsInOrder, AreStarts, IsShortCode, IsLongFront, IsAboveFront, IsFastAt, AreFast}
 use Rattle.exr_codes.specs.Windows.{IsCodeAt}
 use Rattle.exr_codes.specs.declared.fast.Fast.{Fast}
-use Rattle.exr_codes.proofs.Intervals.{weight_above-less, weight_above_exact}
+use Rattle.exr_codes.proofs.Intervals.{weight_above-less, weight_above_exact, weight_above_mono, weight_above-zero}
 use Rattle.exr_codes.proofs.Orders.{count_above-less, count_above_mono}
 
 -- a rank in the codes of one length gives the code's number
@@ -78,3 +79,60 @@ long_is lengths front fast none (inr long) = long
 -- the answer for a code
 abbrev pub fast_of : ℕ → ℕ → Fast
 fast_of entry len = record { entry = entry; len = len; least = len }
+
+mul_cancel : (a b c : ℕ) → 0 < c → a * c ≡ b * c → a ≡ b
+mul_cancel a b c pos same = sym (mul-div_cancel a pos) ∙ ap (λ n. n / c) same ∙ mul-div_cancel b pos
+
+-- ---- filling in the fronts of short codes
+
+module _ (lengths sorted : List ℕ) (at len : ℕ) (complete : IsComplete lengths) (in_order : IsInOrder lengths sorted) (some : 0 < len) (small : len ≤ 12) (here : at * 2 ^ 46 ≡ weight_above len lengths) where
+  wide : 2 ^ (58 - len) ≡ 2 ^ (12 - len) * 2 ^ 46
+  wide = let e : 58 - len ≡ (12 - len) + 46 = omega arith in ap (λ n. 2 ^ n) e ∙ pow-add 2 (12 - len) 46
+
+  -- behind the codes of one length begin those of one bit less
+  pub at_next : (at + count_of len lengths * 2 ^ (12 - len)) * 2 ^ 46 ≡ weight_above (len - 1) lengths
+  at_next =
+      let less = weight_above-less len lengths some in
+      rw less (let w = wide in rw w (omega (arith, here)))
+
+  -- they end within the table
+  pub at_below : at + count_of len lengths * 2 ^ (12 - len) ≤ 4096
+  at_below = omega (arith, at_next, weight_above_mono 0 (len - 1) lengths (omega arith), weight_above-zero lengths, complete.full)
+
+  -- the codes of the length
+  pub length-codes : length (take (count_of len lengths) (drop (count_above len lengths) sorted)) ≡ count_of len lengths
+  length-codes = length-take-le (count_of len lengths) (drop (count_above len lengths) sorted) (rw length-drop (omega (arith, in_order.size, count_above-less len lengths some, count_above_mono 0 (len - 1) lengths (omega arith))))
+
+  pub short_laid : (front : ℕ) → at ≤ front → front < at + count_of len lengths * 2 ^ (12 - len) → IsShortCode lengths front (fast_of (get_or (take (count_of len lengths) (drop (count_above len lengths) sorted)) ((front - at) / 2 ^ (12 - len)) 0) len)
+  short_laid front from to =
+      let size = 2 ^ (12 - len) in
+      let n = count_of len lengths in
+      let rank = (front - at) / size in
+      let pos = pow_pos (12 - len) in
+      let below : rank < n = div_below (front - at) size n pos (omega arith) in
+      let ranked = in_order.ranked len rank some (omega arith) below in
+      let place : get_or (take n (drop (count_above len lengths) sorted)) rank 0 ≡ get_or sorted (count_above len lengths + rank) 0 = get_or-take n (drop (count_above len lengths) sorted) rank 0 below ∙ get_or-drop (count_above len lengths) sorted rank 0 in
+      let q = weight_above len lengths / 2 ^ (58 - len) in
+      let exact = weight_above_exact lengths complete len (omega arith) in
+      let start : at ≡ q * size = mul_cancel at (q * size) (2 ^ 46) (pow_pos 46) (here ∙ sym exact ∙ ap (λ w. q * w) wide ∙ sym (mul_assoc q size (2 ^ 46))) in
+      let value : front / size ≡ rank + q = ap (λ m. m / size) (let e : front ≡ (front - at) + q * size = omega arith in e) ∙ add-mul-div_right (front - at) q pos in
+      rw place (record {
+        has_bits = some;
+        is_short = small;
+        is_there = ranked.is_there;
+        has_len = ranked.has_len;
+        begins = value ∙ omega (arith, number_of_rank lengths len rank (get_or sorted (count_above len lengths + rank) 0) ranked);
+      })
+
+-- a length that starts above a front
+pub long_laid : (lengths firsts places : List ℕ) (front : ℕ) (fast : Fast) → AreStarts lengths firsts places → IsAboveFront firsts front fast → IsLongFront lengths front fast
+long_laid lengths firsts places front fast starts above = record {
+  none = above.none;
+  some = above.some;
+  small = above.small;
+  above = rw (← starts.first (fast.least - 1) (omega (arith, above.small))) above.above;
+}
+
+-- behind the codes of one bit is the table's end
+pub at_last : (lengths : List ℕ) (at len : ℕ) → IsComplete lengths → len ≡ 0 → at * 2 ^ 46 ≡ weight_above len lengths → at ≡ 4096
+at_last lengths at len complete none here = omega (arith, here, ap (λ l. weight_above l lengths) none, weight_above-zero lengths, complete.full)
