@@ -4,8 +4,11 @@
 
 mod decoder;
 mod fast;
+mod item;
 mod laws;
 mod order;
+mod table;
 
 pub use decoder::{Decoder, Found};
 pub use laws::codes_are_prefix_free;
+pub use table::read_table;
