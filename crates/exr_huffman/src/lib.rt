@@ -1,0 +1,4 @@
+//! Huffman blocks: lists of 16-bit words, packed with codes of at most 58 bits and runs of equal words.
+#![tactic(auto)]
+
+mod window;
