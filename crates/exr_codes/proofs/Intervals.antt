@@ -11,7 +11,7 @@ use Rattle.std.proofs.Math.Pow.{pow_mono}
 use Rattle.exr_base.specs.Bits.{number_of, bits_of}
 use Rattle.exr_base.proofs.BitLists.{length-bits_of, number_of-append, number_of-below, number_of-bits_of, number_of-take}
 use Rattle.exr_codes.specs.Windows.{IsWindow, IsCodeAt}
-use Rattle.exr_codes.specs.Codes.{weight_of, IsComplete, weight_above, count_of, code_number, code_of, code_begins, first_below, entry_at, IsPrefixFree}
+use Rattle.exr_codes.specs.Codes.{weight_of, IsComplete, weight_above, count_of, code_number, code_of, code_begins, first_below, first_of_two, entry_at, IsPrefixFree}
 
 -- one length fewer takes the codes of that length in
 above_one : (len l : ℕ) → 0 < len → cond (ltb (len - 1) l) (weight_of l) 0 ≡ cond (ltb len l) (weight_of l) 0 + cond (eqb l len) 1 0 * 2 ^ (58 - len)
@@ -199,7 +199,7 @@ first_below_none passes zero none = refl
 first_below_none passes (suc n) none = rw (first_below_none passes n (λ j lt. none j (omega arith)), none n (omega arith)) refl
 
 -- the least number that passes is the only one that does
-first_below_is : (passes : ℕ → Bool) (n k : ℕ) → k < n → passes k ≡ true → ((j : ℕ) → j < n → passes j ≡ true → j ≡ k) → first_below passes n ≡ Some k
+pub first_below_is : (passes : ℕ → Bool) (n k : ℕ) → k < n → passes k ≡ true → ((j : ℕ) → j < n → passes j ≡ true → j ≡ k) → first_below passes n ≡ Some k
 unfolding first_below
 first_below_is passes zero k within pass only = absurd (omega arith)
 first_below_is passes (suc n) k within pass only = elim (cases_eq k n) [
@@ -211,7 +211,7 @@ first_below_is passes (suc n) k within pass only = elim (cases_eq k n) [
 ]
 
 -- what it means that a code begins the bits
-code_begins_parts : (lengths : List ℕ) (bits : List Bool) (k : ℕ) → code_begins lengths bits k ≡ true → (0 < get_or lengths k 0) × (get_or lengths k 0 ≤ length bits) × (number_of (take (get_or lengths k 0) bits) ≡ code_number lengths k)
+pub code_begins_parts : (lengths : List ℕ) (bits : List Bool) (k : ℕ) → code_begins lengths bits k ≡ true → (0 < get_or lengths k 0) × (get_or lengths k 0 ≤ length bits) × (number_of (take (get_or lengths k 0) bits) ≡ code_number lengths k)
 unfolding code_begins
 code_begins_parts lengths bits k e =
     let len = get_or lengths k 0 in
@@ -219,7 +219,7 @@ code_begins_parts lengths bits k e =
     let q = and_parts (ltb 0 len) (leb len (length bits)) p.0 in
     (ltb-true 0 len q.0, leb-true len (length bits) q.1, eqb-true (number_of (take len bits)) (code_number lengths k) p.1)
 
-code_begins_from : (lengths : List ℕ) (bits : List Bool) (k : ℕ) → 0 < get_or lengths k 0 → get_or lengths k 0 ≤ length bits → number_of (take (get_or lengths k 0) bits) ≡ code_number lengths k → code_begins lengths bits k ≡ true
+pub code_begins_from : (lengths : List ℕ) (bits : List Bool) (k : ℕ) → 0 < get_or lengths k 0 → get_or lengths k 0 ≤ length bits → number_of (take (get_or lengths k 0) bits) ≡ code_number lengths k → code_begins lengths bits k ≡ true
 unfolding code_begins
 code_begins_from lengths bits k some fits is =
     let len = get_or lengths k 0 in
@@ -272,9 +272,9 @@ module _ (lengths : List ℕ) (complete : IsComplete lengths) (bits : List Bool)
   high_of_window n small = ap (λ m. window / 2 ^ m) (let e : 64 - n ≡ 6 + (58 - n) = omega arith in e) ∙ sym (shr-shr window 6 (58 - n))
 
   -- where they are not enough, no code begins them
-  pub entry_at_short : IsWindow 64 bits window → length bits < len → entry_at lengths bits ≡ None
+  pub entry_at_short : (count : ℕ) → IsWindow count bits window → len ≤ count → length bits < len → entry_at lengths bits ≡ None
   unfolding entry_at
-  entry_at_short is_window short = first_below_none (code_begins lengths bits) (length lengths) (λ j lt. false_from_ne_true (code_begins lengths bits j) (λ begins.
+  entry_at_short count is_window valid short = first_below_none (code_begins lengths bits) (length lengths) (λ j lt. false_from_ne_true (code_begins lengths bits j) (λ begins.
     let p = code_begins_parts lengths bits j begins in
     let len_j = get_or lengths j 0 in
     let short_j = complete.short j in
@@ -283,3 +283,29 @@ module _ (lengths : List ℕ) (complete : IsComplete lengths) (bits : List Bool)
     let at_k : window / 2 ^ 6 / 2 ^ (58 - get_or lengths k 0) ≡ code_number lengths k = rw found.is_len (sym (high_of_window len short_k) ∙ found.begins) in
     let same = same_from_front lengths complete j k (window / 2 ^ 6) p.0 (omega (arith, found.is_len, found.has_bits)) at_j at_k in
     omega (arith, p.1, found.is_len, ap (λ i. get_or lengths i 0) same)))
+
+first_of_two_passes : (passes : ℕ → Bool) (n k : ℕ) (earlier : Option ℕ) → (earlier ≡ Some k → passes k ≡ true) → first_of_two earlier (cond (passes n) (Some n) None) ≡ Some k → passes k ≡ true
+first_of_two_passes passes n k (Some j) pass e = pass e
+first_of_two_passes passes n k None pass e = here (passes n) refl e
+  where
+    here : (b : Bool) → passes n ≡ b → cond b (Some n) None ≡ Some k → passes k ≡ true
+    here true is f = let same : n ≡ k = cc in subst (λ (m : ℕ). passes m ≡ true) same is
+    here false is f = absurd cc
+
+-- what is found passes
+pub first_below_passes : (passes : ℕ → Bool) (n k : ℕ) → first_below passes n ≡ Some k → passes k ≡ true
+unfolding first_below
+first_below_passes passes zero k e = absurd cc
+first_below_passes passes (suc n) k e = first_of_two_passes passes n k (first_below passes n) (first_below_passes passes n k) e
+
+-- the entry found has a code that begins the bits
+pub entry_at_is : (lengths : List ℕ) (bits : List Bool) (k : ℕ) → entry_at lengths bits ≡ Some k → (0 < get_or lengths k 0) × (get_or lengths k 0 ≤ length bits)
+unfolding entry_at
+entry_at_is lengths bits k e =
+    let p = code_begins_parts lengths bits k (first_below_passes (code_begins lengths bits) (length lengths) k e) in
+    (p.0, p.1)
+
+-- no code begins no bits
+pub entry_at_nothing : (lengths : List ℕ) → entry_at lengths [] ≡ None
+unfolding entry_at
+entry_at_nothing lengths = first_below_none (code_begins lengths []) (length lengths) (λ j lt. false_from_ne_true (code_begins lengths [] j) (λ begins. omega (arith, code_begins_parts lengths [] j begins)))

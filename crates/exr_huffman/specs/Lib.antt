@@ -1,1 +1,4 @@
 pub mod Rest
+pub mod Tokens
+pub mod Blocks
+pub mod Nexts

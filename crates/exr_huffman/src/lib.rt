@@ -1,4 +1,8 @@
 //! Huffman blocks: lists of 16-bit words, packed with codes of at most 58 bits and runs of equal words.
 #![tactic(auto)]
 
+mod data;
+mod fault;
 mod window;
+
+pub use fault::HufFault;
