@@ -1,3 +1,4 @@
 pub mod Nine
 pub mod Rests
 pub mod Rested
+pub mod Progress

@@ -95,3 +95,45 @@ fn next_token(decoder: &Decoder, window: &mut Window<'_>, bits: u64, least: u32,
     }
     Next::More(take_count(window))
 }
+
+/// The words that the data bits spell.
+pub(crate) fn data_words(alloc: Global, data: &[u8], bits: u64, decoder: &Decoder, least: u32, run: u32, wanted: usize) -> Result<Vec<u16>, Refusal<HufFault>>
+    requires complete { IsComplete decoder.now }
+    requires run { length decoder.now ≡ run + 1 }
+    requires range { least + run ≤ 65536 }
+    requires there { bits ≤ 8 * length data.now }
+    requires few { bits < 2 ^ 32 }
+    requires some { 0 < wanted }
+    requires most { wanted < 2 ^ 32 }
+    ensures { Gives (λ v. v.items) result (data_words_of least decoder.now wanted (take bits (bits_of_bytes data.now))) }
+{
+    let mut window = Window::new(data);
+    if begins_with_run(decoder, &mut window, bits, run) {
+        return Err(Refusal::Fault(HufFault::RunFirst));
+    }
+    let mut words = Vec::new(alloc);
+    let mut before = 0u16;
+    'tokens: while window.at < bits {
+        if words.len() == wanted {
+            return Err(Refusal::Fault(HufFault::TooMany));
+        }
+        match next_token(decoder, &mut window, bits, least, run) {
+            Next::Word(word) => {
+                before = word;
+                words.push(word)?;
+            }
+            Next::More(count) => {
+                let longer = words.len() + count as usize;
+                if longer > wanted {
+                    return Err(Refusal::Fault(HufFault::TooMany));
+                }
+                words.resize(longer, before)?;
+            }
+            Next::Cut => return Err(Refusal::Fault(HufFault::TooFew)),
+        }
+    }
+    if words.len() < wanted {
+        return Err(Refusal::Fault(HufFault::TooFew));
+    }
+    Ok(words)
+}
