@@ -1,6 +1,6 @@
 //! Reading a complete table of code lengths from the bytes that spell it.
 
-ghost use Rattle.std.specs.Prelude.{◌≡◌, ℕ, ◌+◌, ◌*◌, ◌^◌, ◌<◌, ◌≤◌, ◌==◌, length, slice_index, option_map, IfOk, IfSome};
+ghost use Rattle.std.specs.Prelude.{◌≡◌, ℕ, ◌+◌, ◌*◌, ◌^◌, ◌<◌, ◌≤◌, ◌==◌, length, slice_index, option_map, vec_len, IfOk, IfSome};
 ghost use Rattle.std.specs.List.{sum_by};
 ghost use Rattle.exr_codes.specs.Codes.{weight_of, IsComplete};
 ghost use Rattle.exr_codes.specs.Tables.{table_of, lengths_at, is_filling, is_full};
@@ -53,6 +53,7 @@ fn take_lengths(alloc: Global, reader: &mut BitReader<'_>, count: usize) -> Resu
     requires { count < 2 ^ 32 }
     ensures value { IfOk result (λ read. option_map (λ v. (v.items, reader.new)) read ≡ lengths_at count reader.old) }
     ensures short { IfOk result (λ read. IfSome read (λ v. (k : ℕ) → slice_index v.items k ≤ 58)) }
+    ensures size { IfOk result (λ read. IfSome read (λ v. vec_len v ≡ count)) }
 {
     let mut lengths = Vec::new(alloc);
     'items: while lengths.len() < count {
@@ -79,6 +80,7 @@ pub fn read_table(alloc: Global, bytes: &[u8], count: usize) -> Result<Option<Ve
     requires short { length bytes.now < 2 ^ 32 }
     ensures value { IfOk result (λ table. option_map (λ v. v.items) table ≡ table_of count bytes.now) }
     ensures complete { IfOk result (λ table. IfSome table (λ v. IsComplete v.items)) }
+    ensures size { IfOk result (λ table. IfSome table (λ v. vec_len v ≡ count)) }
 {
     let mut reader = BitReader::new(bytes, 8 * bytes.len() as u64);
     let Some(lengths) = take_lengths(alloc, &mut reader, count)? else {

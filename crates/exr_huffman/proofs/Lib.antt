@@ -2,3 +2,4 @@ pub mod Nine
 pub mod Rests
 pub mod Rested
 pub mod Progress
+pub mod Unpacking

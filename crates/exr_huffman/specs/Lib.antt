@@ -2,3 +2,4 @@ pub mod Rest
 pub mod Tokens
 pub mod Blocks
 pub mod Nexts
+pub mod Parts

@@ -1,8 +1,10 @@
 //! Huffman blocks: lists of 16-bit words, packed with codes of at most 58 bits and runs of equal words.
 #![tactic(auto)]
 
+mod block;
 mod data;
 mod fault;
 mod window;
 
+pub use block::unpack;
 pub use fault::HufFault;
