@@ -1,10 +1,10 @@
 -- What a decoder's tables say is the code that begins a window.
-use Rattle.std.proofs.Common.{◌≡◌, ◌≢◌, ℕ, zero, suc, ◌+◌, ◌-◌, ◌*◌, ◌/◌, ◌%◌, ◌^◌, ◌<◌, ◌≤◌, ◌⊎◌, List, [], ◌∷◌, ◌++◌, length, take, drop, get_or, refl, sym, ap, ◌∙◌, ap₂, subst, inl, inr, arith}
-use Rattle.std.proofs.Math.Nat.{mul_comm, mul_assoc, mul-div_cancel, add-mul-div_right, lt-div-mul-add}
+use Rattle.std.proofs.Common.{◌≡◌, ℕ, ◌+◌, ◌-◌, ◌*◌, ◌/◌, ◌^◌, ◌<◌, ◌≤◌, List, length, take, drop, get_or, sym, ap, ◌∙◌, inl, inr, arith}
+use Rattle.std.proofs.Math.Nat.{mul_assoc, mul-div_cancel, add-mul-div_right, lt-div-mul-add}
 use Rattle.std.proofs.lemmas.Nat.{pow_pos, pow-add, div_below, shr-shr, div-mul-add}
 use Rattle.std.proofs.lemmas.List.{length-take-le, length-drop, get_or-take, get_or-drop}
-use Rattle.exr_codes.specs.Codes.{weight_of, weight_above, count_of, code_number, IsComplete}
-use Rattle.exr_codes.specs.Decoding.{count_above, IsRanked, IsInOrder, AreStarts, IsShortCode, IsLongFront, IsAboveFront, IsFastAt, AreFast}
+use Rattle.exr_codes.specs.Codes.{weight_above, count_of, code_number, IsComplete}
+use Rattle.exr_codes.specs.Decoding.{count_above, IsRanked, IsInOrder, AreStarts, IsShortCode, IsLongFront, IsAboveFront, IsFastAt}
 use Rattle.exr_codes.specs.Windows.{IsCodeAt}
 use Rattle.exr_codes.specs.declared.fast.Fast.{Fast}
 use Rattle.exr_codes.proofs.Intervals.{weight_above-less, weight_above_exact, weight_above_mono, weight_above-zero}
@@ -29,7 +29,7 @@ module _ (lengths : List ℕ) (complete : IsComplete lengths) (window len : ℕ)
       let split : window / 2 ^ 6 ≡ (window / 2 ^ 6 - first) + first / w * w = omega arith in
       let shift : 64 - len ≡ 6 + (58 - len) = omega arith in
       let value : window / 2 ^ (64 - len) ≡ (window / 2 ^ 6 - first) / w + first / w =
-        ap (λ n. window / 2 ^ n) shift ∙ sym (shr-shr window 6 (58 - len)) ∙ ap (λ n. n / w) split ∙ add-mul-div_right (window / 2 ^ 6 - first) (first / w) (pow_pos (58 - len)) in
+      ap (λ n. window / 2 ^ n) shift ∙ sym (shr-shr window 6 (58 - len)) ∙ ap (λ n. n / w) split ∙ add-mul-div_right (window / 2 ^ 6 - first) (first / w) (pow_pos (58 - len)) in
       record {
         is_there = ranked.is_there;
         has_bits = some;

@@ -1,13 +1,12 @@
 -- Each code of a complete table takes an interval of the numbers below 2 ^ 58, and no two of them meet.
-use Rattle.std.proofs.Common.{◌≡◌, ◌≢◌, ℕ, zero, suc, ◌+◌, ◌-◌, ◌*◌, ◌/◌, ◌%◌, ◌^◌, ◌<◌, ◌≤◌, ◌⊎◌, Bool, true, false, cond, eqb, ltb, leb, ◌&&◌, List, [], ◌∷◌, ◌++◌, length, take, drop, get_or, replicate, Option, Some, None, refl, sym, ap, ◌∙◌, ap₂, subst, inl, inr, arith, add-one, suc-add, zero-add, mod-eq_of_lt}
-use Rattle.std.specs.List.{sum_by, count_by}
-use Rattle.std.proofs.lemmas.List.{get_or_past, take-take, take_at, take-append-le, length-replicate, length-append, length-take, length-take-le}
-use Rattle.std.proofs.lemmas.List.Sums.{sum_by-cons, sum_by_more, sum_by-take-drop, sum_by-take-le, get_or-le-sum_by, count_by_more_yes}
-use Rattle.std.proofs.lemmas.Bool.{cases_lt, cases_eq, cases_order, eq-eqb, ne_eqb, lt-ltb, le-ltb, ltb-true, ltb-false, eqb-true, leb-true, le-leb, and_parts, and_from, false_from_ne_true}
+use Rattle.std.proofs.Common.{◌≡◌, ℕ, zero, suc, ◌+◌, ◌-◌, ◌*◌, ◌/◌, ◌%◌, ◌^◌, ◌<◌, ◌≤◌, ◌⊎◌, Bool, true, false, cond, eqb, ltb, leb, ◌&&◌, List, [], ◌∷◌, ◌++◌, length, take, get_or, replicate, Option, Some, None, refl, sym, ap, ◌∙◌, subst, inl, inr, arith, mod-eq_of_lt}
+use Rattle.std.specs.List.{sum_by}
+use Rattle.std.proofs.lemmas.List.{get_or_past, take-take, take_at, take-append-le, length-replicate, length-append, length-take}
+use Rattle.std.proofs.lemmas.List.Sums.{sum_by-cons, sum_by-take-le, count_by_more_yes}
+use Rattle.std.proofs.lemmas.Bool.{cases_lt, cases_eq, cases_order, eq-eqb, lt-ltb, le-ltb, ltb-true, eqb-true, leb-true, le-leb, and_parts, and_from, false_from_ne_true}
 use Rattle.std.proofs.lemmas.Bool.Decides.{nat_tests}
-use Rattle.std.proofs.lemmas.Nat.{pow_pos, pow-add, shl-shr, shr-shr, shr_high, mod_below, le-div, div-mul-add, div-add-mod'}
+use Rattle.std.proofs.lemmas.Nat.{pow_pos, pow-add, shl-shr, shr-shr, shr_high, mod_below, div-mul-add, div-add-mod'}
 use Rattle.std.proofs.Math.Nat.{mul_comm, mul-sub, mul-le-mul_right, lt_of_mul-lt-mul_right}
-use Rattle.std.proofs.Math.Pow.{pow_mono}
 use Rattle.exr_base.specs.Bits.{number_of, bits_of}
 use Rattle.exr_base.proofs.BitLists.{length-bits_of, number_of-append, number_of-below, number_of-bits_of, number_of-take}
 use Rattle.exr_codes.specs.Windows.{IsWindow, IsCodeAt}
@@ -53,9 +52,9 @@ multiple_of len zero small short = (0, rw (le-ltb len 0 (omega arith)) (omega ar
 multiple_of len (suc l) small short = elim (cases_lt len (suc l)) [
   | inl longer ↦ (0, rw (lt-ltb len (suc l) longer) (omega arith))
   | inr shorter ↦ (
-      2 ^ (len - suc l),
-      rw (le-ltb len (suc l) shorter, weight_some (suc l) (omega arith)) (let e : 58 - suc l ≡ (len - suc l) + (58 - len) = omega arith in rw (e, pow-add 2 (len - suc l) (58 - len)) (omega arith)),
-    )
+    2 ^ (len - suc l),
+    rw (le-ltb len (suc l) shorter, weight_some (suc l) (omega arith)) (let e : 58 - suc l ≡ (len - suc l) + (58 - len) = omega arith in rw (e, pow-add 2 (len - suc l) (58 - len)) (omega arith)),
+  )
 ]
 
 pub rest_is_multiple : (len : ℕ) (lengths : List ℕ) → len ≤ 58 → ((k : ℕ) → get_or lengths k 0 ≤ 58) → (q : ℕ) × (sum_by weight_of lengths ≡ weight_above len lengths + q * 2 ^ (58 - len))
@@ -136,15 +135,15 @@ module _ (lengths : List ℕ) (complete : IsComplete lengths) where
   same_from_interval i j v some_i some_j from_i to_i from_j to_j = elim (cases_order i j) [
     | inl same ↦ same
     | inr (inl before) ↦ elim (cases_order (get_or lengths i 0) (get_or lengths j 0)) [
-        | inl same ↦ absurd (omega (arith, first_ends i j some_i some_j (inr (same, before))))
-        | inr (inl shorter) ↦ absurd (omega (arith, first_ends j i some_j some_i (inl shorter)))
-        | inr (inr longer) ↦ absurd (omega (arith, first_ends i j some_i some_j (inl longer)))
-      ]
+      | inl same ↦ absurd (omega (arith, first_ends i j some_i some_j (inr (same, before))))
+      | inr (inl shorter) ↦ absurd (omega (arith, first_ends j i some_j some_i (inl shorter)))
+      | inr (inr longer) ↦ absurd (omega (arith, first_ends i j some_i some_j (inl longer)))
+    ]
     | inr (inr after) ↦ elim (cases_order (get_or lengths i 0) (get_or lengths j 0)) [
-        | inl same ↦ absurd (omega (arith, first_ends j i some_j some_i (inr (sym same, after))))
-        | inr (inl shorter) ↦ absurd (omega (arith, first_ends j i some_j some_i (inl shorter)))
-        | inr (inr longer) ↦ absurd (omega (arith, first_ends i j some_i some_j (inl longer)))
-      ]
+      | inl same ↦ absurd (omega (arith, first_ends j i some_j some_i (inr (sym same, after))))
+      | inr (inl shorter) ↦ absurd (omega (arith, first_ends j i some_j some_i (inl shorter)))
+      | inr (inr longer) ↦ absurd (omega (arith, first_ends i j some_i some_j (inl longer)))
+    ]
   ]
 
   in_interval : (k v : ℕ) → v / 2 ^ (58 - get_or lengths k 0) ≡ code_number lengths k → (start_of lengths k ≤ v) × (v < start_of lengths k + 2 ^ (58 - get_or lengths k 0))
@@ -275,14 +274,14 @@ module _ (lengths : List ℕ) (complete : IsComplete lengths) (bits : List Bool)
   pub entry_at_short : (count : ℕ) → IsWindow count bits window → len ≤ count → length bits < len → entry_at lengths bits ≡ None
   unfolding entry_at
   entry_at_short count is_window valid short = first_below_none (code_begins lengths bits) (length lengths) (λ j lt. false_from_ne_true (code_begins lengths bits j) (λ begins.
-    let p = code_begins_parts lengths bits j begins in
-    let len_j = get_or lengths j 0 in
-    let short_j = complete.short j in
-    let at_j : window / 2 ^ 6 / 2 ^ (58 - len_j) ≡ code_number lengths j = sym (high_of_window len_j short_j) ∙ sym (is_window len_j (omega arith) p.1) ∙ p.2 in
-    let short_k : len ≤ 58 = omega (arith, complete.short k, found.is_len) in
-    let at_k : window / 2 ^ 6 / 2 ^ (58 - get_or lengths k 0) ≡ code_number lengths k = rw found.is_len (sym (high_of_window len short_k) ∙ found.begins) in
-    let same = same_from_front lengths complete j k (window / 2 ^ 6) p.0 (omega (arith, found.is_len, found.has_bits)) at_j at_k in
-    omega (arith, p.1, found.is_len, ap (λ i. get_or lengths i 0) same)))
+      let p = code_begins_parts lengths bits j begins in
+      let len_j = get_or lengths j 0 in
+      let short_j = complete.short j in
+      let at_j : window / 2 ^ 6 / 2 ^ (58 - len_j) ≡ code_number lengths j = sym (high_of_window len_j short_j) ∙ sym (is_window len_j (omega arith) p.1) ∙ p.2 in
+      let short_k : len ≤ 58 = omega (arith, complete.short k, found.is_len) in
+      let at_k : window / 2 ^ 6 / 2 ^ (58 - get_or lengths k 0) ≡ code_number lengths k = rw found.is_len (sym (high_of_window len short_k) ∙ found.begins) in
+      let same = same_from_front lengths complete j k (window / 2 ^ 6) p.0 (omega (arith, found.is_len, found.has_bits)) at_j at_k in
+      omega (arith, p.1, found.is_len, ap (λ i. get_or lengths i 0) same)))
 
 first_of_two_passes : (passes : ℕ → Bool) (n k : ℕ) (earlier : Option ℕ) → (earlier ≡ Some k → passes k ≡ true) → first_of_two earlier (cond (passes n) (Some n) None) ≡ Some k → passes k ≡ true
 first_of_two_passes passes n k (Some j) pass e = pass e

@@ -1,7 +1,7 @@
 -- Reading lengths item by item, each behind those that were read before.
-use Rattle.std.proofs.Common.{◌≡◌, ◌≢◌, ℕ, zero, suc, ◌+◌, ◌-◌, ◌*◌, ◌^◌, ◌<◌, ◌≤◌, ◌⊎◌, Bool, true, false, cond, eqb, ltb, leb, ◌&&◌, List, [], ◌∷◌, ◌++◌, length, take, drop, get_or, replicate, Option, Some, None, refl, sym, ap, ◌∙◌, ap₂, subst, inl, inr, arith, append_assoc, append-nil}
-use Rattle.std.proofs.lemmas.Bool.{cases_lt, cases_eq, lt-ltb, le-ltb, ltb-false, leb-true, leb-false, cond_both, true≢false, and_left, and_right, and_from, eq-eqb, ne_eqb, eqb-true}
-use Rattle.std.proofs.lemmas.List.{length-replicate, length-append, get_or_append_left, get_or-append_right, get_or-replicate, get_or_past, take_all}
+use Rattle.std.proofs.Common.{◌≡◌, ◌≢◌, ℕ, zero, suc, ◌+◌, ◌-◌, ◌*◌, ◌^◌, ◌<◌, ◌≤◌, Bool, true, false, eqb, ltb, leb, ◌&&◌, List, [], ◌∷◌, ◌++◌, length, take, drop, get_or, replicate, Option, Some, None, refl, sym, ap, ◌∙◌, subst, inl, inr, arith, append_assoc, append-nil}
+use Rattle.std.proofs.lemmas.Bool.{cases_lt, lt-ltb, le-ltb, leb-false, cond_both, true≢false, and_left, and_right, and_from, eq-eqb, ne_eqb, eqb-true}
+use Rattle.std.proofs.lemmas.List.{length-replicate, take_all}
 use Rattle.std.proofs.lemmas.Nat.{pow_pos}
 use Rattle.exr_base.specs.Bits.{number_of}
 use Rattle.exr_codes.specs.Tables.{item_at, lengths_of_number, run_at, lengths_within, lengths_at, is_filling, is_full, table_of, ◌>>=◌}
@@ -31,9 +31,9 @@ HasLengths None = Unit {0}
 number_has_lengths : (item : ℕ) (bits : List Bool) → HasLengths (lengths_of_number item bits)
 number_has_lengths item bits =
     cond_both (leb item 58) (Some (item ∷ [], bits)) _ HasLengths (λ e. omega arith) (λ long.
-      cond_both (leb item 62) (Some (replicate (item - 57) 0, bits)) (run_at bits) HasLengths
-      (λ e. rw length-replicate (omega (arith, leb-false item 58 long)))
-      (λ e. cond_both (ltb (length bits) 8) None (Some (replicate (number_of (take 8 bits) + 6) 0, drop 8 bits)) HasLengths (λ f. tt) (λ f. rw length-replicate (omega arith))))
+    cond_both (leb item 62) (Some (replicate (item - 57) 0, bits)) (run_at bits) HasLengths
+    (λ e. rw length-replicate (omega (arith, leb-false item 58 long)))
+    (λ e. cond_both (ltb (length bits) 8) None (Some (replicate (number_of (take 8 bits) + 6) 0, drop 8 bits)) HasLengths (λ f. tt) (λ f. rw length-replicate (omega arith))))
 
 item_has_lengths : (bits : List Bool) → HasLengths (item_at bits)
 unfolding item_at

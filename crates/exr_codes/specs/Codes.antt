@@ -1,6 +1,6 @@
 -- Tables of code lengths and the codes that belong to them. Entry k of a table is the length of code k in bits, and
 -- 0 where there is no code k.
-use Rattle.std.specs.Prelude.{◌≡◌, ℕ, zero, suc, ◌+◌, ◌-◌, ◌*◌, ◌/◌, ◌^◌, ◌<◌, ◌≤◌, Bool, ◌&&◌, ◌==◌, nat_lt, nat_le, if◌then◌else◌, List, ◌++◌, length, take, slice_index, Option, Some, None, count_by}
+use Rattle.std.specs.Prelude.{◌≡◌, ℕ, zero, suc, ◌+◌, ◌-◌, ◌/◌, ◌^◌, ◌<◌, ◌≤◌, Bool, ◌&&◌, ◌==◌, nat_lt, nat_le, if◌then◌else◌, List, ◌++◌, length, take, slice_index, Option, Some, None, count_by}
 use Rattle.std.specs.List.{sum_by}
 use Rattle.exr_base.specs.Bits.{number_of, bits_of}
 

@@ -103,7 +103,11 @@ fn codes_of_length<'a>(lengths: &[u8], starts: &Starts, sorted: &'a [u32], len: 
     ensures { result.now ≡ take (count_of len lengths.now) (drop (count_above len lengths.now) sorted.now) }
 {
     let _ = lengths;
-    part_of(sorted, starts.places[len] as usize, starts.places[len - 1] as usize)
+    part_of(
+        sorted,
+        starts.places[len] as usize,
+        starts.places[len - 1] as usize,
+    )
 }
 
 /// Writes the answers to the fronts that codes of at most 12 bits begin with.
@@ -138,7 +142,12 @@ fn lay_fronts(lengths: &[u8], starts: &Starts, sorted: &[u32], fast: &mut [Fast]
 }
 
 /// The table of fronts of a complete table of lengths.
-pub(crate) fn fast_of(alloc: Global, lengths: &[u8], starts: &Starts, sorted: &[u32]) -> Result<Vec<Fast>, NoMemory>
+pub(crate) fn fast_of(
+    alloc: Global,
+    lengths: &[u8],
+    starts: &Starts,
+    sorted: &[u32],
+) -> Result<Vec<Fast>, NoMemory>
     requires complete { IsComplete lengths.now }
     requires starts { AreStarts lengths.now starts.now.firsts starts.now.places }
     requires in_order { IsInOrder lengths.now sorted.now }

@@ -49,7 +49,11 @@ fn filling(reader: &mut BitReader<'_>) -> bool
 }
 
 /// So many lengths, item by item, or None where the bits do not spell them.
-fn take_lengths(alloc: Global, reader: &mut BitReader<'_>, count: usize) -> Result<Option<Vec<u8>>, NoMemory>
+fn take_lengths(
+    alloc: Global,
+    reader: &mut BitReader<'_>,
+    count: usize,
+) -> Result<Option<Vec<u8>>, NoMemory>
     requires { count < 2 ^ 32 }
     ensures value { IfOk result (λ read. option_map (λ v. (v.items, reader.new)) read ≡ lengths_at count reader.old) }
     ensures short { IfOk result (λ read. IfSome read (λ v. (k : ℕ) → slice_index v.items k ≤ 58)) }

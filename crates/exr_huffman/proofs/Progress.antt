@@ -1,15 +1,14 @@
 -- Reading tokens one by one, each behind those that were read before.
-use Rattle.std.proofs.Common.{◌≡◌, ◌≢◌, ℕ, zero, suc, ◌+◌, ◌-◌, ◌*◌, ◌^◌, ◌<◌, ◌≤◌, ◌⊎◌, Bool, true, false, cond, eqb, ltb, ◌&&◌, List, [], ◌∷◌, ◌++◌, length, take, drop, get_or, replicate, Option, Some, None, Result, Ok, Err, refl, sym, ap, ◌∙◌, ap₂, subst, inl, inr, arith, append_assoc, append-nil}
-use Rattle.std.proofs.lemmas.List.{length-append, length-take, length-drop, length-replicate, take-append-le, take_at, take_all, drop_all, nil_from_length}
+use Rattle.std.proofs.Common.{◌≡◌, ℕ, zero, suc, ◌+◌, ◌-◌, ◌<◌, ◌≤◌, Bool, true, false, eqb, ltb, ◌&&◌, List, [], ◌∷◌, ◌++◌, length, take, drop, get_or, replicate, Option, Some, None, Ok, Err, refl, sym, ap, ◌∙◌, ap₂, subst, arith, append_assoc, append-nil}
+use Rattle.std.proofs.lemmas.List.{length-append, length-drop, length-replicate, take_at, nil_from_length}
 use Rattle.std.proofs.Math.Seq.{take-append-add}
-use Rattle.std.proofs.lemmas.Bool.{cases_lt, cases_eq, eq-eqb, ne_eqb, lt-ltb, le-ltb, and_left, and_right, and_from, cond_both}
+use Rattle.std.proofs.lemmas.Bool.{eq-eqb, ne_eqb, lt-ltb, le-ltb, and_left, and_right, cond_both}
 use Rattle.exr_base.specs.Bits.{number_of}
 use Rattle.exr_codes.specs.Codes.{entry_at}
 use Rattle.exr_codes.specs.Tables.{◌>>=◌}
 use Rattle.exr_codes.proofs.Intervals.{entry_at_is, entry_at_nothing}
-use Rattle.exr_huffman.specs.Tokens.{Token, word, more, token_at, token_of, run_token, run_entry, token_and, tokens_within, tokens_of, words_from, words_of}
+use Rattle.exr_huffman.specs.Tokens.{Token, word, more, token_at, token_of, run_token, run_entry, tokens_within, tokens_of, words_from, words_of}
 use Rattle.exr_huffman.specs.Blocks.{is_run, judged, data_words_of}
-use Rattle.exr_huffman.specs.declared.fault.HufFault.{HufFault}
 use Rattle.exr_huffman.specs.declared.fault.HufFault.TheVariants.{RunFirst, TooMany, TooFew}
 
 -- ---- a token is not empty

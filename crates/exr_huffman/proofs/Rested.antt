@@ -1,14 +1,14 @@
 -- A step of reading: what the window finds is the token that begins the data bits.
-use Rattle.std.proofs.Common.{◌≡◌, ◌≢◌, ℕ, zero, suc, ◌+◌, ◌-◌, ◌*◌, ◌/◌, ◌%◌, ◌^◌, ◌<◌, ◌≤◌, Bool, true, false, cond, eqb, ltb, List, [], ◌∷◌, ◌++◌, length, take, drop, get_or, replicate, Option, Some, None, refl, sym, ap, ◌∙◌, ap₂, subst, inl, inr, arith}
-use Rattle.std.proofs.lemmas.List.{length-append, length-take, length-take-le, length-drop, take-append-le, drop-append-le, take-take, drop-drop, drop-take}
-use Rattle.std.proofs.lemmas.Bool.{cases_lt, cases_eq, eq-eqb, ne_eqb, lt-ltb, le-ltb}
+use Rattle.std.proofs.Common.{◌≡◌, ◌≢◌, ℕ, ◌+◌, ◌-◌, ◌*◌, ◌/◌, ◌^◌, ◌<◌, ◌≤◌, Bool, false, eqb, List, length, take, drop, get_or, replicate, Some, None, refl, sym, ap, ◌∙◌, inl, inr, arith}
+use Rattle.std.proofs.lemmas.List.{length-append, length-take-le, length-drop, take-append-le, drop-append-le, take-take, drop-drop, drop-take}
+use Rattle.std.proofs.lemmas.Bool.{cases_lt, eq-eqb, ne_eqb, lt-ltb, le-ltb}
 use Rattle.exr_base.specs.Bits.{number_of, bits_of_bytes}
 use Rattle.exr_base.proofs.BitLists.{length-bits_of_bytes}
 use Rattle.exr_codes.specs.Codes.{IsComplete, entry_at}
 use Rattle.exr_codes.specs.Windows.{IsWindow, IsCodeAt}
-use Rattle.exr_codes.proofs.Intervals.{entry_at_found, entry_at_short, entry_at_is, entry_at_nothing}
+use Rattle.exr_codes.proofs.Intervals.{entry_at_found, entry_at_short}
 use Rattle.exr_huffman.specs.Rest.{rest_at}
-use Rattle.exr_huffman.specs.Tokens.{Token, word, more, token_at, token_of, run_token, run_entry, tokens_within, tokens_of, words_from, words_of}
+use Rattle.exr_huffman.specs.Tokens.{word, more, token_at, run_entry}
 use Rattle.exr_huffman.specs.Blocks.{is_run}
 use Rattle.exr_huffman.specs.Nexts.{data_rest}
 use Rattle.exr_huffman.proofs.Rests.{length-rest_at}

@@ -1,12 +1,12 @@
 -- The bits from a place on, and what a window knows of them.
-use Rattle.std.proofs.Common.{◌≡◌, ℕ, zero, suc, ◌+◌, ◌-◌, ◌*◌, ◌/◌, ◌%◌, ◌^◌, ◌<◌, ◌≤◌, Bool, true, false, List, [], ◌∷◌, ◌++◌, length, take, drop, get_or, set, replicate, refl, sym, ap, ◌∙◌, ap₂, subst, inl, inr, arith, mod-eq_of_lt, append-nil, append_assoc}
-use Rattle.std.proofs.lemmas.List.{length-append, length-take, length-take-le, length-drop, length-replicate, take_at, drop_at, take-append-le, drop-append-le, take-append-drop, take-take, take_all, nil_from_length, replicate-append-replicate, drop-drop, drop-take, take-replicate, take_more, set_at, replicate_more}
+use Rattle.std.proofs.Common.{◌≡◌, ℕ, zero, suc, ◌+◌, ◌-◌, ◌*◌, ◌/◌, ◌%◌, ◌^◌, ◌<◌, ◌≤◌, Bool, false, List, [], ◌∷◌, ◌++◌, length, take, drop, replicate, refl, sym, ap, ◌∙◌, ap₂, subst, inl, inr, arith, append-nil}
+use Rattle.std.proofs.lemmas.List.{length-append, length-take, length-take-le, length-drop, length-replicate, take_at, drop_at, take-append-le, drop-append-le, take-take, take_all, nil_from_length, replicate-append-replicate, drop-drop, drop-take, take-replicate}
 use Rattle.std.proofs.lemmas.Bool.{cases_lt}
 use Rattle.std.proofs.Math.Seq.{take-add}
 use Rattle.std.proofs.Math.Nat.{zero-div}
-use Rattle.std.proofs.lemmas.Nat.{pow_pos, pow-add, field_of, shl-shr, shr-shr, mod_low}
+use Rattle.std.proofs.lemmas.Nat.{field_of, shl-shr, shr-shr, mod_low}
 use Rattle.exr_base.specs.Bits.{number_of, bits_of, bits_of_bytes}
-use Rattle.exr_base.proofs.BitLists.{length-bits_of_bytes, bits_of_bytes-cons, bits_of_bytes-append, drop-bits_of_bytes, number_of-append, number_of-below, number_of-take, number_of-take_more, number_of-take_below}
+use Rattle.exr_base.proofs.BitLists.{length-bits_of_bytes, bits_of_bytes-cons, bits_of_bytes-append, drop-bits_of_bytes, number_of-take, number_of-take_more, number_of-take_below}
 use Rattle.exr_codes.specs.Windows.{IsWindow}
 use Rattle.exr_huffman.specs.Rest.{rest_at}
 

@@ -1,13 +1,13 @@
 -- The parts of a block, and what it holds by them.
-use Rattle.std.proofs.Common.{◌≡◌, ℕ, ◌+◌, ◌-◌, ◌*◌, ◌/◌, ◌<◌, ◌≤◌, Bool, true, false, ltb, List, length, take, drop, Option, Some, None, Result, Ok, Err, refl, sym, ap, ◌∙◌, ap₂, subst, arith}
-use Rattle.std.proofs.lemmas.List.{drop-drop, take_rest}
+use Rattle.std.proofs.Common.{◌≡◌, ℕ, ◌+◌, ◌-◌, ◌/◌, ◌<◌, ◌≤◌, ltb, List, length, take, drop, Some, None, Ok, Err, refl}
+use Rattle.std.proofs.lemmas.List.{drop-drop}
 use Rattle.std.proofs.lemmas.Bool.{le-ltb, lt-ltb, or_from}
-use Rattle.exr_base.specs.Refusal.{◌>>=◌, Refuses}
+use Rattle.exr_base.specs.Refusal.{Refuses}
 use Rattle.exr_base.specs.declared.refusal.Refusal.{Refusal}
 use Rattle.exr_base.specs.declared.refusal.Refusal.TheVariants as refusal
 use Rattle.exr_base.specs.Bits.{bits_of_bytes}
 use Rattle.exr_codes.specs.Tables.{table_of}
-use Rattle.exr_huffman.specs.Blocks.{Block, number_at, block_of, or_bad_table, data_of, data_words_of, huffman_of}
+use Rattle.exr_huffman.specs.Blocks.{Block, number_at, block_of, data_of, data_words_of, huffman_of}
 use Rattle.exr_huffman.specs.declared.fault.HufFault.{HufFault}
 use Rattle.exr_huffman.specs.declared.fault.HufFault.TheVariants.{Short, BadTable}
 

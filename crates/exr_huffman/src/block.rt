@@ -80,5 +80,13 @@ pub fn unpack(alloc: Global, packed: &[u8], words: usize) -> Result<Vec<u16>, Re
         return Err(Refusal::Fault(HufFault::Short));
     }
     let decoder = Decoder::new(alloc, lengths)?;
-    data_words(alloc, parts.behind, parts.bits as u64, &decoder, parts.least, run, words)
+    data_words(
+        alloc,
+        parts.behind,
+        parts.bits as u64,
+        &decoder,
+        parts.least,
+        run,
+        words,
+    )
 }

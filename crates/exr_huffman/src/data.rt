@@ -97,7 +97,15 @@ fn next_token(decoder: &Decoder, window: &mut Window<'_>, bits: u64, least: u32,
 }
 
 /// The words that the data bits spell.
-pub(crate) fn data_words(alloc: Global, data: &[u8], bits: u64, decoder: &Decoder, least: u32, run: u32, wanted: usize) -> Result<Vec<u16>, Refusal<HufFault>>
+pub(crate) fn data_words(
+    alloc: Global,
+    data: &[u8],
+    bits: u64,
+    decoder: &Decoder,
+    least: u32,
+    run: u32,
+    wanted: usize,
+) -> Result<Vec<u16>, Refusal<HufFault>>
     requires complete { IsComplete decoder.now }
     requires run { length decoder.now ≡ run + 1 }
     requires range { least + run ≤ 65536 }

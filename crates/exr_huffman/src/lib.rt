@@ -4,6 +4,8 @@
 mod block;
 mod data;
 mod fault;
+#[cfg(test)]
+mod tests;
 mod window;
 
 pub use block::unpack;

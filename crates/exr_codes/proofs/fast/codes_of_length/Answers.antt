@@ -1,6 +1,5 @@
-use Rattle.std.proofs.Common.{◌≡◌, ◌-◌, ◌<◌, ◌≤◌, ap, refl, ◌∙◌, arith, length, take, drop, get_or}
+use Rattle.std.proofs.Common.{◌≡◌, ◌-◌, refl, arith, get_or}
 use Rattle.exr_codes.specs.Codes.{count_of}
-use Rattle.exr_codes.specs.Decoding.{count_above}
 use Rattle.exr_codes.proofs.Orders.{count_above-less, count_above_mono}
 use Rattle.exr_codes.proofs.fast.codes_of_length.Goals as goal
 

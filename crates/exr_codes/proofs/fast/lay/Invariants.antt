@@ -1,4 +1,4 @@
-use Rattle.std.proofs.Common.{◌≡◌, ℕ, ◌+◌, ◌<◌, ◌≤◌, length, slice_index_or}
+use Rattle.std.proofs.Common.{◌≡◌, ℕ, ◌<◌, ◌≤◌, slice_index_or}
 use Rattle.exr_codes.specs.declared.fast.Fast.{Fast}
 use Rattle.exr_codes.proofs.fast.lay.Given as goal
 

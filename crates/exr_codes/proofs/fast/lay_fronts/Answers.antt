@@ -1,4 +1,4 @@
-use Rattle.std.proofs.Common.{◌≡◌, ◌-◌, ◌/◌, ◌^◌, ◌<◌, ◌≤◌, refl, ap, ◌∙◌, arith, length, inl, inr, get_or}
+use Rattle.std.proofs.Common.{◌/◌, ◌^◌, arith, inl, inr, get_or}
 use Rattle.std.proofs.lemmas.Bool.{cases_lt}
 use Rattle.exr_codes.specs.Codes.{weight_above}
 use Rattle.exr_codes.proofs.Intervals.{weight_above_mono, weight_above-zero}

@@ -1,7 +1,7 @@
-use Rattle.std.proofs.Common.{◌≡◌, ℕ, ◌+◌, ◌-◌, ◌*◌, ◌/◌, ◌%◌, ◌^◌, ◌<◌, ◌≤◌, refl, sym, ap, subst, ◌∙◌, inl, inr, arith, length, get_or, take, drop, mod-eq_of_lt}
+use Rattle.std.proofs.Common.{◌≡◌, ◌-◌, ◌*◌, ◌/◌, ◌%◌, ◌^◌, ◌≤◌, refl, ◌∙◌, inl, inr, arith, length, mod-eq_of_lt}
 use Rattle.std.proofs.lemmas.Bool.{cases_lt}
 use Rattle.exr_codes.specs.Codes.{weight_above, count_of}
-use Rattle.exr_codes.proofs.Intervals.{weight_above_exact, weight_above_mono, weight_above-zero}
+use Rattle.exr_codes.proofs.Intervals.{weight_above_exact, weight_above_mono}
 use Rattle.exr_codes.proofs.Fronts.{at_next, at_below, length-codes, short_laid, at_last}
 use Rattle.exr_codes.proofs.fast.lay_short.Goals as goal
 

@@ -1,4 +1,4 @@
-use Rattle.std.proofs.Common.{arith, take}
+use Rattle.std.proofs.Common.{arith}
 use Rattle.exr_base.proofs.BitLists.{number_of-take_below}
 use Rattle.exr_codes.proofs.item.take_item.Goals as goal
 

@@ -1,4 +1,4 @@
-use Rattle.exr_codes.proofs.Intervals.{prefix_free, entry_at_short}
+use Rattle.exr_codes.proofs.Intervals.{prefix_free}
 use Rattle.exr_codes.proofs.laws.codes_are_prefix_free.Goals as goal
 
 pub returns : goal.returns

@@ -1,7 +1,5 @@
-use Rattle.std.proofs.Common.{◌≡◌, ◌^◌, ◌<◌, ◌≤◌, true, false, refl, sym, ap, ◌∙◌, arith, take, drop, length}
-use Rattle.std.proofs.lemmas.Bool.{true≢false, cases_lt, and_left, and_right, and_from, lt-ltb, le-ltb, eq-eqb, ne_eqb}
+use Rattle.std.proofs.Common.{◌≡◌, refl, sym, ap, ◌∙◌, arith, take, length}
 use Rattle.exr_base.specs.Bits.{number_of}
-use Rattle.exr_codes.specs.Tables.{is_filling}
 use Rattle.exr_codes.proofs.Reading.{number_of-empty, number_of-first, at_least, filling_whole, filling_one, filling_none}
 use Rattle.exr_codes.proofs.table.filling.Goals as goal
 

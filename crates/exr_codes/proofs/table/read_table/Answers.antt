@@ -1,9 +1,6 @@
-use Rattle.std.proofs.Common.{◌≡◌, ℕ, ◌<◌, ◌≤◌, ◌&&◌, Some, None, true, false, Bool, List, Option, refl, sym, ap, ap₂, subst, ◌∙◌, arith, take, drop, length}
-use Rattle.std.proofs.Common.{Vec, Global}
-use Rattle.std.specs.Prelude.{option_map}
+use Rattle.std.proofs.Common.{◌≡◌, ◌&&◌, false, sym, ◌∙◌}
 use Rattle.std.proofs.lemmas.Bool.{and_left, and_right}
-use Rattle.exr_base.specs.Bits.{bits_of_bytes}
-use Rattle.exr_codes.specs.Tables.{table_of, lengths_at, is_filling, is_full}
+use Rattle.exr_codes.specs.Tables.{is_filling, is_full}
 use Rattle.exr_codes.proofs.Reading.{table_none, table_read, table_wrong, table_complete, all_bits}
 use Rattle.exr_codes.proofs.table.read_table.Goals as goal
 use Rattle.exr_codes.proofs.table.read_table.Goals.{else-filling-via-then-filling+else-full, else-filling-via-else-filling}
@@ -29,9 +26,9 @@ returns-else-filling-clause-value c =
     let bits = c.new-reader.ensures ∙ all_bits c.args.bytes.now in
     let read = rw c.in-Some.is at c.in_ok-lengths.ensures.value in
     let wrong : (is_filling c.take_lengths.new.reader && is_full c.in-Some.lengths.items) ≡ false =
-      elim c.else-filling.branch [
-        | else-filling-via-then-filling+else-full w ↦ and_right (is_filling c.take_lengths.new.reader) (is_full c.in-Some.lengths.items) (rw (← w.deref.ensures.value) (sym (w.if-full.ensures)))
-        | else-filling-via-else-filling w ↦ and_left (is_filling c.take_lengths.new.reader) (is_full c.in-Some.lengths.items) (sym (w.if-filling.ensures))
-      ]
+    elim c.else-filling.branch [
+      | else-filling-via-then-filling+else-full w ↦ and_right (is_filling c.take_lengths.new.reader) (is_full c.in-Some.lengths.items) (rw (← w.deref.ensures.value) (sym (w.if-full.ensures)))
+      | else-filling-via-else-filling w ↦ and_left (is_filling c.take_lengths.new.reader) (is_full c.in-Some.lengths.items) (sym (w.if-filling.ensures))
+    ]
     in
     sym (table_wrong c.args.count c.args.bytes.now c.in-Some.lengths.items c.take_lengths.new.reader (rw (← bits) (sym read)) wrong)

@@ -1,9 +1,9 @@
-use Rattle.std.proofs.Common.{◌≡◌, ℕ, ◌+◌, ◌-◌, ◌<◌, ◌≤◌, ◌++◌, ◌∷◌, [], Some, refl, sym, ap, ◌∙◌, subst, arith, vec_len, length, get_or, replicate, take}
+use Rattle.std.proofs.Common.{◌≡◌, ◌+◌, ◌-◌, ◌<◌, ◌≤◌, ◌++◌, ◌∷◌, [], Some, refl, sym, subst, arith, vec_len, length, replicate, take}
 use Rattle.std.proofs.lemmas.List.{length-replicate, take_all}
 use Rattle.exr_codes.specs.Items.{lengths_of_item, IsItem}
-use Rattle.exr_codes.specs.Tables.{item_at, lengths_at}
+use Rattle.exr_codes.specs.Tables.{item_at}
 use Rattle.exr_codes.specs.declared.item.Item.{Item}
-use Rattle.exr_codes.proofs.Reading.{behind, read_none, read_long, read_more, read_done, short_push, short_zeros}
+use Rattle.exr_codes.proofs.Reading.{read_none, read_long, read_more, read_done, short_push, short_zeros}
 use Rattle.exr_codes.proofs.table.take_lengths.Goals as goal
 
 pub returns-in_default-clause-value : goal.returns-in_default-clause-value

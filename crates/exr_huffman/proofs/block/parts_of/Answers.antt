@@ -1,4 +1,4 @@
-use Rattle.std.proofs.Common.{◌≡◌, ◌-◌, ◌≤◌, ap, ◌∙◌, arith, length, take, drop}
+use Rattle.std.proofs.Common.{ap, ◌∙◌, arith, length, take, drop}
 use Rattle.std.proofs.lemmas.List.{take_rest, length-drop}
 use Rattle.exr_huffman.proofs.Unpacking.{block_is}
 use Rattle.exr_huffman.proofs.block.parts_of.Goals as goal

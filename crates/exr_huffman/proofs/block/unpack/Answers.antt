@@ -1,7 +1,5 @@
-use Rattle.std.proofs.Common.{◌≡◌, ℕ, ◌+◌, ◌-◌, ◌<◌, ◌≤◌, List, Some, None, Ok, sym, ap, subst, ◌∙◌, arith, length, take}
+use Rattle.std.proofs.Common.{sym}
 use Rattle.std.proofs.lemmas.Result.{err_from_is_err_and}
-use Rattle.exr_base.specs.Refusal.{Gives}
-use Rattle.exr_huffman.specs.Blocks.{block_of, data_words_of}
 use Rattle.exr_huffman.specs.Parts.{block_of_parts}
 use Rattle.exr_huffman.proofs.Unpacking.{refused, without_table, without_data, with_data}
 use Rattle.exr_huffman.proofs.block.unpack.Goals as goal

@@ -1,13 +1,11 @@
-use Rattle.std.proofs.Common.{◌≡◌, ◌≢◌, ℕ, ◌+◌, ◌*◌, ◌-◌, ◌<◌, ◌≤◌, ◌++◌, ◌∷◌, [], Some, None, List, Bool, true, false, length, take, drop, replicate, vec_len, refl, sym, ap, subst, ◌∙◌, arith}
+use Rattle.std.proofs.Common.{◌≡◌, ◌+◌, ◌-◌, ◌<◌, ◌++◌, false, length, take, replicate, vec_len, refl, sym, ◌∙◌, arith}
 use Rattle.std.proofs.lemmas.List.{take_all}
 use Rattle.exr_base.specs.Bits.{bits_of_bytes}
 use Rattle.exr_codes.specs.Codes.{entry_at}
 use Rattle.exr_huffman.specs.Blocks.{is_run}
-use Rattle.exr_huffman.specs.Nexts.{data_rest, IsNext}
-use Rattle.exr_huffman.specs.Tokens.{token_at, word, more, words_from}
-use Rattle.exr_huffman.specs.declared.data.Next.{Next}
+use Rattle.exr_huffman.specs.Nexts.{data_rest}
 use Rattle.exr_huffman.proofs.Rested.{length-data_rest}
-use Rattle.exr_huffman.proofs.Progress.{Progress, begun, goes_on, goes_on_word, goes_on_run, run_first, ends_few, ends_ok, ends_many, run_passes, token_at_none}
+use Rattle.exr_huffman.proofs.Progress.{begun, goes_on_word, goes_on_run, run_first, ends_few, ends_ok, ends_many, run_passes, token_at_none}
 use Rattle.exr_huffman.proofs.data.data_words.Goals as goal
 
 pub returns-then-begins_with_run : goal.returns-then-begins_with_run

@@ -1,7 +1,6 @@
-use Rattle.std.proofs.Common.{◌≡◌, ℕ, Some, None, ◌+◌, ◌*◌, ◌-◌, ◌<◌, ◌≤◌, length, take, drop, get_or, List, Bool, sym, ap, ap₂, ◌∙◌, arith}
+use Rattle.std.proofs.Common.{◌≡◌, ◌+◌, ◌*◌, ◌-◌, ◌<◌, ◌≤◌, length, take, drop, sym, ap, ◌∙◌, arith}
 use Rattle.exr_base.specs.Bits.{number_of}
 use Rattle.exr_huffman.specs.Nexts.{data_rest}
-use Rattle.exr_huffman.specs.Tokens.{token_at, word, more}
 use Rattle.exr_huffman.proofs.Rested.{found_whole, found_cut, token_none, token_word, token_cut, token_more, length-data_rest, data_rest-skip, front_of_rest}
 use Rattle.exr_huffman.proofs.data.next_token.Goals as goal
 

@@ -1,7 +1,4 @@
-use Rattle.std.proofs.Common.{◌≡◌, ◌*◌, ◌/◌, ◌^◌, ◌-◌, ◌<◌, ◌≤◌, length, take, sym, ap, ◌∙◌, arith}
-use Rattle.exr_base.specs.Bits.{number_of}
-use Rattle.exr_huffman.specs.Rest.{rest_at}
-use Rattle.exr_huffman.proofs.Rests.{length-rest_at}
+use Rattle.std.proofs.Common.{ap, ◌∙◌, arith}
 use Rattle.exr_huffman.proofs.Rested.{count_of_window}
 use Rattle.exr_huffman.proofs.data.take_count.Goals as goal
 use Rattle.exr_huffman.proofs.data.take_count.Goals.{then-window-lt8, else-window-lt8}

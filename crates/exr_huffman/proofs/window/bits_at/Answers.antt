@@ -1,4 +1,4 @@
-use Rattle.std.proofs.Common.{◌≡◌, ℕ, ◌<◌, ◌≤◌, ◌++◌, List, Bool, length, ap, sym, ◌∙◌, arith, take, drop, ◌%◌, ◌/◌, ◌-◌, replicate}
+use Rattle.std.proofs.Common.{ℕ, ◌<◌, ◌≤◌, ◌++◌, List, length, ap, sym, ◌∙◌, take, drop, ◌%◌, ◌/◌, ◌-◌, replicate}
 use Rattle.std.proofs.lemmas.List.{take_rest}
 use Rattle.exr_base.specs.Bits.{number_of, bits_of_bytes}
 use Rattle.exr_huffman.proofs.Rests.{rest_long, rest_short}

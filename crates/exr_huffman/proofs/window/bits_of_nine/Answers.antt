@@ -1,6 +1,4 @@
-use Rattle.std.proofs.Common.{◌≡◌, ℕ, ◌<◌, sym, ap, ◌∙◌, arith, get_or, length, inl, inr, ◌*◌, ◌/◌, ◌%◌, ◌^◌, ◌-◌, bit_or}
-use Rattle.std.proofs.lemmas.Bool.{cases_lt}
-use Rattle.std.proofs.lemmas.List.{get_or_past}
+use Rattle.std.proofs.Common.{ℕ, ◌<◌, sym, arith, get_or}
 use Rattle.exr_huffman.proofs.Nine.{bits_of_nine_is}
 use Rattle.exr_huffman.proofs.window.bits_of_nine.Goals as goal
 

@@ -1,7 +1,6 @@
-use Rattle.std.proofs.Common.{◌≡◌, ℕ, ◌/◌, ◌^◌, ◌<◌, ◌≤◌, sym, ap, subst, ◌∙◌, inl, inr, arith, length, get_or}
+use Rattle.std.proofs.Common.{◌/◌, ◌^◌, arith}
 use Rattle.exr_codes.specs.Decoding.{IsFastAt}
-use Rattle.exr_codes.specs.declared.fast.Fast.{Fast}
-use Rattle.exr_codes.proofs.Fronts.{found_short, above_long, short_is, long_is}
+use Rattle.exr_codes.proofs.Fronts.{found_short, short_is}
 use Rattle.exr_codes.proofs.decoder.Decoder.find.Goals as goal
 
 pub returns-then-fast-gt0 : goal.returns-then-fast-gt0

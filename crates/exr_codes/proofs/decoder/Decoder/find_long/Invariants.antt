@@ -1,4 +1,4 @@
-use Rattle.std.proofs.Common.{◌-◌, ◌/◌, ◌^◌, ◌<◌, ◌≤◌}
+use Rattle.std.proofs.Common.{◌-◌, ◌<◌, ◌≤◌}
 use Rattle.exr_codes.specs.Codes.{weight_above}
 use Rattle.exr_codes.proofs.decoder.Decoder.find_long.Given as goal
 
