@@ -1,0 +1,4 @@
+pub mod Intervals
+pub mod Orders
+pub mod Fronts
+pub mod Reading
