@@ -13,10 +13,10 @@ fn name(rt: &impl Abort, alloc: Global, bytes: &[u8]) -> PackedName {
         .expect(rt, "a name")
 }
 
-fn attribute(rt: &impl Abort, alloc: Global, kind: &[u8], value: &[u8]) -> Attribute {
+fn attribute(rt: &impl Abort, alloc: Global, kind: &[u8], byte: u8) -> Attribute {
     Attribute {
         kind: name(rt, alloc, kind),
-        value: AttributeValue::new(alloc, value).expect(rt, "memory"),
+        value: AttributeValue::new(alloc, &[byte]).expect(rt, "memory"),
     }
 }
 
@@ -111,7 +111,7 @@ fn a_head_of_more_than_16_mib(rt: HostRuntime) -> Result<(), Fail> {
 fn a_map_is_its_list(rt: HostRuntime) -> Result<(), Fail> {
     let mut map = AttributeMap::new(rt.alloc());
     assert_eq!(rt; map.len(), 0);
-    for (key, value) in [(b"x", b"1"), (b"y", b"2"), (b"z", b"3"), (b"x", b"4")] {
+    for (key, value) in [(b"x", b'1'), (b"y", b'2'), (b"z", b'3'), (b"x", b'4')] {
         let attribute = attribute(&rt, rt.alloc(), b"t", value);
         map.set(name(&rt, rt.alloc(), key), attribute)?;
     }

@@ -1,12 +1,12 @@
 //! The value of an attribute: bytes, which nothing here looks into.
 
-ghost use Rattle.std.specs.Prelude.{◌≡◌, IfOk};
+ghost use Rattle.std.specs.Prelude.{◌≡◌, ◌<◌, ◌^◌, length, IfOk};
 
 use exr_base::NoMemory;
 use std::alloc::Global;
 use std::marker::Model;
 
-/// The bytes of an attribute's value, without the size that stands before them in the file.
+/// The bytes of an attribute's value, fewer than 2^31, without the size that stands before them in the file.
 ///
 /// File Layout, "Header": attribute value.
 #[derive(Drop, Debug)]
@@ -15,16 +15,19 @@ pub struct AttributeValue {
 }
 
 impl Model for AttributeValue {
-    ghost use Rattle.std.specs.Prelude.{ℕ, List};
+    ghost use Rattle.std.specs.Prelude.{ℕ, List, length, ◌<◌, ◌^◌};
 
     ghost Value = { List ℕ };
 
     ghost view = { λ v. v.bytes.items };
+
+    ghost invariant = { λ v. length v.bytes.items < 2 ^ 31 };
 }
 
 impl AttributeValue {
     /// A value of these bytes.
     pub fn new(alloc: Global, bytes: &[u8]) -> Result<AttributeValue, NoMemory>
+        requires { length bytes.now < 2 ^ 31 }
         ensures { IfOk result (λ value. value ≡ bytes.now) }
     {
         let bytes = Vec::from_slice(alloc, bytes)?;
@@ -33,7 +36,8 @@ impl AttributeValue {
 
     /// Its bytes.
     pub fn bytes(&self) -> &[u8]
-        ensures { result.now ≡ self.now }
+        ensures value { result.now ≡ self.now }
+        ensures sized { length self.now < 2 ^ 31 }
     {
         self.bytes.as_slice()
     }

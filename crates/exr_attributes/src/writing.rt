@@ -1,7 +1,7 @@
 //! Writing the attributes of a header.
 
-ghost use Rattle.std.specs.Prelude.{◌≡◌, ◌++◌, All, OnOk, OnErr};
-ghost use Rattle.exr_attributes.specs.Spelling.{entry_spelling, header_spelling, HasSize};
+ghost use Rattle.std.specs.Prelude.{◌≡◌, ◌++◌, OnOk, OnErr};
+ghost use Rattle.exr_attributes.specs.Spelling.{entry_spelling, header_spelling};
 
 use crate::attribute::Entry;
 use crate::map::AttributeMap;
@@ -12,7 +12,6 @@ use std::alloc::Global;
 ///
 /// File Layout, "Header".
 pub fn write_attributes(alloc: Global, map: &AttributeMap, to: &mut Vec<u8>) -> Result<(), NoMemory>
-    requires { All HasSize map.now }
     ensures ok { OnOk result (to.new.items ≡ to.old.items ++ header_spelling map.now) }
     ensures err { OnErr result (to.new.items ≡ to.old.items) }
 {
@@ -27,7 +26,6 @@ pub fn write_attributes(alloc: Global, map: &AttributeMap, to: &mut Vec<u8>) -> 
 
 /// Appends the spelling of one attribute under its name.
 fn write_entry(text: &mut Vec<u8>, entry: &Entry) -> Result<(), NoMemory>
-    requires { HasSize entry.now }
     ensures { OnOk result (text.new.items ≡ text.old.items ++ entry_spelling entry.now) }
 {
     text.extend_from_slice(entry.name.bytes())?;
