@@ -5,7 +5,6 @@ use Rattle.std.proofs.Math.Nat.{pow-suc}
 use Rattle.std.proofs.Math.Pow.{mod-mod-pow}
 use Rattle.std.proofs.Math.Seq.{take-add}
 use Rattle.std.proofs.lemmas.List.{length-append, length-take, length-take-le, length-drop, length-replicate, replicate-append-replicate, append-nil, take_at, drop_at, append_assoc, drop-drop, drop-take, drop_all, drop_more, take-append-le, drop-append-le}
-use Rattle.std.proofs.lemmas.List.{take-append-drop}
 use Rattle.std.proofs.lemmas.List.Concat.{flat_map-append}
 use Rattle.std.proofs.lemmas.Nat.{pow_pos, pow-add, shr-shr, mod-pow-add, field_of, shr_high, mod_low, mod_below, shl_whole, or_shifted, shl_below, one_shl, and_mask, mul-add-lt}
 use Rattle.std.proofs.Math.Pow.{pow_mono}
@@ -284,13 +283,3 @@ byte_moved bytes count byte full = rw (append-nil, full, flat_map-append (bits_o
 pub written_none : (whole old : List Bool) (n value : ℕ) → whole ≡ old → whole ≡ old ++ bits_of (n - n) (value / 2 ^ n)
 unfolding bits_of
 written_none whole old n value same = let e : n - n ≡ 0 = omega arith in rw e (same ∙ sym (append-nil old))
-
--- ---- the front of a list of bits
-
--- the first bits spell the high part of the number
-pub number_of-take : (n : ℕ) (bits : List Bool) → n ≤ length bits → number_of (take n bits) ≡ number_of bits / 2 ^ (length bits - n)
-number_of-take n bits within =
-    let back = drop n bits in
-    let len : length back ≡ length bits - n = length-drop n bits in
-    let whole : number_of bits ≡ number_of (take n bits) * 2 ^ length back + number_of back = ap number_of (sym (take-append-drop n bits)) ∙ number_of-append (take n bits) back in
-    rw (← len, whole) (sym (shr_high (number_of (take n bits)) (length back) (number_of back) (number_of-below back)))

@@ -8,7 +8,8 @@ use Rattle.std.proofs.lemmas.Bool.Decides.{nat_tests}
 use Rattle.std.proofs.lemmas.Nat.{pow_pos, pow-add, shl-shr, shr-shr, shr_high, mod_below, div-mul-add, div-add-mod'}
 use Rattle.std.proofs.Math.Nat.{mul_comm, mul-sub, mul-le-mul_right, lt_of_mul-lt-mul_right}
 use Rattle.exr_base.specs.Bits.{number_of, bits_of}
-use Rattle.exr_base.proofs.BitLists.{length-bits_of, number_of-append, number_of-below, number_of-bits_of, number_of-take}
+use Rattle.exr_base.proofs.BitLists.{length-bits_of, number_of-append, number_of-below, number_of-bits_of}
+use Rattle.exr_codes.proofs.BitFronts.{number_of-take}
 use Rattle.exr_codes.specs.Windows.{IsWindow, IsCodeAt}
 use Rattle.exr_codes.specs.Codes.{weight_of, IsComplete, weight_above, count_of, code_number, code_of, code_begins, first_below, first_of_two, entry_at, IsPrefixFree}
 

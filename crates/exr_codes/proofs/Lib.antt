@@ -1,3 +1,4 @@
+pub mod BitFronts
 pub mod Intervals
 pub mod Orders
 pub mod Fronts

@@ -6,7 +6,8 @@ use Rattle.std.proofs.Math.Seq.{take-add}
 use Rattle.std.proofs.Math.Nat.{zero-div}
 use Rattle.std.proofs.lemmas.Nat.{field_of, shl-shr, shr-shr, mod_low}
 use Rattle.exr_base.specs.Bits.{number_of, bits_of, bits_of_bytes}
-use Rattle.exr_base.proofs.BitLists.{length-bits_of_bytes, bits_of_bytes-cons, bits_of_bytes-append, drop-bits_of_bytes, number_of-take, number_of-take_more, number_of-take_below}
+use Rattle.exr_base.proofs.BitLists.{length-bits_of_bytes, bits_of_bytes-cons, bits_of_bytes-append, drop-bits_of_bytes, number_of-take_more, number_of-take_below}
+use Rattle.exr_codes.proofs.BitFronts.{number_of-take}
 use Rattle.exr_codes.specs.Windows.{IsWindow}
 use Rattle.exr_huffman.specs.Rest.{rest_at}
 
