@@ -1,4 +1,4 @@
--- The one spelling of a header's attributes. File Layout, "Header".
+-- The one spelling of a header's attributes. File Layout, "Component Three: Header".
 use Rattle.std.specs.Prelude.{ℕ, ◌<◌, ◌^◌, List, [], ◌∷◌, ◌++◌, length, slice_index}
 use Rattle.std.specs.List.{flat_map}
 use Rattle.std.specs.Int.{w32, to_le_bytes}

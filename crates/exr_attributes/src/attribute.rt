@@ -9,7 +9,7 @@ use std::alloc::Global;
 
 /// An attribute without its name: the name of its type, and its value.
 ///
-/// File Layout, "Header": attribute type and attribute value.
+/// File Layout, "Component Three: Header": attribute type and attribute value.
 #[derive(Drop, Debug)]
 pub struct Attribute {
     pub kind: PackedName,

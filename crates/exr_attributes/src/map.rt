@@ -16,7 +16,7 @@ use std::marker::Model;
 
 /// The attributes of one header, names distinct, in the order in which they stand in the file.
 ///
-/// File Layout, "Header".
+/// File Layout, "Component Three: Header".
 #[derive(Drop, Debug)]
 pub struct AttributeMap {
     entries: Vec<Entry>,

@@ -90,7 +90,7 @@ fn next(alloc: Global, from: &mut Cursor) -> Result<Option<Entry>, Refusal<Heade
 /// Its faults are Truncated, BadName, BadSize, Twice and Limit of head bytes, the first that is met from the front;
 /// places count from the start of the cursor's bytes. After a refusal the cursor stands anywhere.
 ///
-/// File Layout, "Header".
+/// File Layout, "Component Three: Header".
 pub fn read_attributes(
     alloc: Global,
     from: &mut Cursor,

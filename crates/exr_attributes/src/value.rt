@@ -8,7 +8,7 @@ use std::marker::Model;
 
 /// The bytes of an attribute's value, fewer than 2^31, without the size that stands before them in the file.
 ///
-/// File Layout, "Header": attribute value.
+/// File Layout, "Component Three: Header": attribute value.
 #[derive(Drop, Debug)]
 pub struct AttributeValue {
     bytes: Vec<u8>,

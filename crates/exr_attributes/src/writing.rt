@@ -10,7 +10,7 @@ use std::alloc::Global;
 
 /// Appends the spelling of a header's attributes, with the zero that closes it. After a refusal `to` is as it was.
 ///
-/// File Layout, "Header".
+/// File Layout, "Component Three: Header".
 pub fn write_attributes(alloc: Global, map: &AttributeMap, to: &mut Vec<u8>) -> Result<(), NoMemory>
     ensures ok { OnOk result (to.new.items ≡ to.old.items ++ header_spelling map.now) }
     ensures err { OnErr result (to.new.items ≡ to.old.items) }
