@@ -48,9 +48,9 @@ pub fn run<R: Threads + Sync, W: World, F: Files<W>, O: Printer, G: Gate>(
     ensures complete { IsTrue F.In.means.tells → (asked : Extract) (head : Plain)
         → order_of (texts_of words.now) ≡ Ok asked → IsPlainFile (W.bytes_of asked.input) head
         → IfErr result (λ stop. OwesRise stop
-            (Rose (F.means.read_faults files.old) (F.means.read_faults files.new))
-            (Rose (F.means.write_faults files.old) (F.means.write_faults files.new)
-                ⊎ Rose (O.means.faults out.old) (O.means.faults out.new))) }
+        (Rose (F.means.read_faults files.old) (F.means.read_faults files.new))
+        (Rose (F.means.write_faults files.old) (F.means.write_faults files.new)
+        ⊎ Rose (O.means.faults out.old) (O.means.faults out.new))) }
 
     // Only the operands' names are asked, and what was created is given back.
     ensures opened { IsTrue F.means.tells → ByOrder (texts_of words.now)
