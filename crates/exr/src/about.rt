@@ -5,8 +5,8 @@ exr reads OpenEXR files. Each command is a line of words KEY=VALUE.
 
   exr extract in=a.exr out=b.raw
       Writes the samples of a.exr into b.raw: a plane a channel, one behind the
-      other, each row by row from the top, every sample as it stands in the file.
-      So far a.exr has one part of scan lines with HALF channels of raw data, the
+      other, each row by row from the top, every sample as the file has it. So
+      far a.exr has one part of scan lines with HALF channels of raw data, the
       eight needed attributes alone and in order, and its chunks in order.
 
   exr --help       this text
