@@ -6,6 +6,7 @@ pub mod Kind
 pub mod Name
 pub mod Next
 pub mod Picture
+pub mod Show
 pub mod Words
 pub mod Plain
 pub mod Views

@@ -1,5 +1,6 @@
-//! The head of a file: the headers of its parts, read from bytes and judged, and written back. What is read is exactly
-//! what the bytes spell, or the first fault from the front. Beside it the plainest head, which `extract` reads so far.
+//! The head of a file: the headers of its parts, read from bytes and judged, written back, and shown as text. What
+//! is read is exactly what the bytes spell, or the first fault from the front. Beside it the plainest head, which
+//! `extract` reads so far.
 #![tactic(auto)]
 
 mod channels;
@@ -12,6 +13,7 @@ mod kind;
 mod picture;
 mod plain;
 mod reading;
+mod show;
 mod words;
 mod writing;
 
@@ -21,6 +23,7 @@ pub use header::Header;
 pub use kind::{LineOrder, PartKind, Tiles};
 pub use plain::{PlainHead, read_plain};
 pub use reading::read_head;
+pub use show::show_head;
 pub use writing::write_head;
 
 #[cfg(test)]

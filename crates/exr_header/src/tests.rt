@@ -130,3 +130,23 @@ fn a_head_of_given_parts(rt: HostRuntime) -> Result<(), Fail> {
     }
     Ok(())
 }
+
+#[test]
+fn the_text_of_a_head(rt: HostRuntime) -> Result<(), Fail> {
+    let (head, _) = read_head(rt.alloc(), ONE_SAMPLE)?;
+    let text = show_head(rt.alloc(), &head)?;
+    let expected = b"exr single parts 1
+part 0 scan name - method 0 order 0 window 0 0 0 0 chunks 1
+channel Y kind 1 linear 0 sampling 1 1
+attribute channels chlist 19
+attribute compression compression 1
+attribute dataWindow box2i 16
+attribute displayWindow box2i 16
+attribute lineOrder lineOrder 1
+attribute pixelAspectRatio float 4
+attribute screenWindowCenter v2f 8
+attribute screenWindowWidth float 4
+";
+    assert_eq!(rt; text.as_slice(), expected.as_slice());
+    Ok(())
+}
