@@ -1,2 +1,5 @@
-pub mod Listed
+pub mod Lists
+pub mod Parts
+pub mod Sides
 pub mod Limits
+pub mod Listed

@@ -1,2 +1,12 @@
+pub mod Channels
+pub mod Fields
+pub mod Head
+pub mod Judging
+pub mod Kind
+pub mod Name
+pub mod Next
+pub mod Picture
+pub mod Show
+pub mod Words
 pub mod Plain
 pub mod Views

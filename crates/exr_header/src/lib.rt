@@ -1,6 +1,32 @@
-//! Heads of files. For now the plainest alone: one part of scan lines with HALF channels and raw data.
+//! The head of a file: the headers of its parts, read from bytes and judged, written back, and shown as text. What
+//! is read is exactly what the bytes spell, or the first fault from the front. Beside it the plainest head, which
+//! `extract` reads so far.
 #![tactic(auto)]
 
+mod channels;
+mod checks;
+mod fields;
+mod given;
+mod head;
+mod header;
+mod kind;
+mod picture;
 mod plain;
+mod reading;
+mod show;
+mod words;
+mod writing;
 
+pub use channels::Channels;
+pub use head::FileHead;
+pub use header::Header;
+pub use kind::{LineOrder, PartKind, Tiles};
 pub use plain::{PlainHead, read_plain};
+pub use reading::read_head;
+pub use show::show_head;
+pub use writing::write_head;
+
+#[cfg(test)]
+mod heads;
+#[cfg(test)]
+mod tests;

@@ -63,3 +63,8 @@ IsBeforeWriting (Words position) = Unit {0}
 IsBeforeWriting Read = Unit {0}
 IsBeforeWriting Write = ⊥
 IsBeforeWriting Form = Unit {0}
+
+-- a stop other than want of memory owes one of two rises
+abbrev pub OwesRise : Stop → Type 0 → Type 0 → Type 0
+OwesRise NoMemory read write = Unit {0}
+OwesRise stop read write = read ⊎ write

@@ -5,7 +5,7 @@ ghost use Rattle.exr_header.specs.Plain.{Plain};
 ghost use Rattle.exr_outside.specs.Count.{Rose};
 ghost use Rattle.exr_tools.specs.PlainFile.{IsPlainFile};
 ghost use Rattle.exr_tools.specs.Words.{Extract, texts_of, order_of};
-ghost use Rattle.exr_tools.specs.Run.{Extracts, IsNotPlain, HasReason, IsBeforeWriting, ByOrder, AsksAtMost, KeepsAtMost};
+ghost use Rattle.exr_tools.specs.Run.{Extracts, IsNotPlain, HasReason, OwesRise, IsBeforeWriting, ByOrder, AsksAtMost, KeepsAtMost};
 
 use crate::extract::extract;
 use crate::stop::Stop;
@@ -43,6 +43,14 @@ pub fn run<R: Threads + Sync, W: World, F: Files<W>, O: Printer, G: Gate>(
         ⊎ Rose (O.means.faults out.old) (O.means.faults out.new))
         (IsTrue F.In.means.tells
         → ByOrder (texts_of words.now) (λ asked. IsNotPlain (W.bytes_of asked.input)) ⊥)) }
+
+    // Where the words ask for a plain file and no count rose, the answer is Ok or want of memory.
+    ensures complete { IsTrue F.In.means.tells → (asked : Extract) (head : Plain)
+        → order_of (texts_of words.now) ≡ Ok asked → IsPlainFile (W.bytes_of asked.input) head
+        → IfErr result (λ stop. OwesRise stop
+        (Rose (F.means.read_faults files.old) (F.means.read_faults files.new))
+        (Rose (F.means.write_faults files.old) (F.means.write_faults files.new)
+        ⊎ Rose (O.means.faults out.old) (O.means.faults out.new))) }
 
     // Only the operands' names are asked, and what was created is given back.
     ensures opened { IsTrue F.means.tells → ByOrder (texts_of words.now)

@@ -1,0 +1,6 @@
+pub mod Entries
+pub mod Texts
+pub mod Heads
+pub mod Again
+pub mod Takes
+pub mod Laws

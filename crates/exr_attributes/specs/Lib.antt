@@ -1,0 +1,4 @@
+pub mod Entry
+pub mod Fault
+pub mod Reading
+pub mod Spelling

@@ -1,0 +1,24 @@
+//! The attributes of one header: a map from names to attributes that keeps their order, read from a file and
+//! written back byte for byte, with each fault that a head can have.
+#![tactic(auto)]
+
+mod attribute;
+mod fault;
+mod front;
+mod map;
+mod name;
+mod reading;
+mod value;
+mod writing;
+
+pub use attribute::{Attribute, Entry};
+pub use fault::{Bound, Field, HeaderFault};
+pub use front::head_bytes;
+pub use map::AttributeMap;
+pub use name::PackedName;
+pub use reading::read_attributes;
+pub use value::AttributeValue;
+pub use writing::write_attributes;
+
+#[cfg(test)]
+mod tests;

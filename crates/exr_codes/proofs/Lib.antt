@@ -1,0 +1,5 @@
+pub mod BitFronts
+pub mod Intervals
+pub mod Orders
+pub mod Fronts
+pub mod Reading

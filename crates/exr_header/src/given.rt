@@ -1,0 +1,149 @@
+//! A head of given parts, judged as a reader would judge its spelling.
+
+ghost use Rattle.std.specs.Prelude.{◌≡◌, ◌≤◌, ◌<◌, ◌+◌, ◌^◌, [], false, All, length, sum_by, IfOk};
+ghost use Rattle.exr_base.specs.Refusal.{Gives};
+ghost use Rattle.exr_header.specs.Kind.{is_deep, is_kind};
+ghost use Rattle.std.specs.List.{list_any};
+ghost use Rattle.exr_header.specs.Picture.{chunk_count_of, IsPicture};
+ghost use Rattle.exr_header.specs.Head.{flags_given, kind_given, part_given, parts_given, head_within, head_given};
+
+use crate::checks::{chunk_count, judged};
+use crate::head::FileHead;
+use crate::header::Header;
+use crate::kind::{Flags, PartKind};
+use crate::picture::typed_kind;
+use crate::writing::write_head;
+use exr_attributes::{AttributeMap, Bound, HeaderFault};
+use exr_base::Refusal;
+use std::alloc::Global;
+
+/// Whether two kinds are one.
+fn is_kind(kind: PartKind, other: PartKind) -> bool
+    ensures { result ≡ is_kind kind other }
+{
+    match kind {
+        PartKind::Scan => matches!(other, PartKind::Scan),
+        PartKind::Tiled => matches!(other, PartKind::Tiled),
+        PartKind::DeepScan => matches!(other, PartKind::DeepScan),
+        PartKind::DeepTiled => matches!(other, PartKind::DeepTiled),
+    }
+}
+
+/// The flags that a writer sets for given parts.
+fn flags_given(multi: bool, given: &[(PartKind, AttributeMap)]) -> Flags
+    ensures { result ≡ flags_given multi given.now }
+{
+    Flags {
+        multi,
+        deep: has_deep_data(given),
+    }
+}
+
+/// Whether one of the given parts is deep.
+fn has_deep_data(given: &[(PartKind, AttributeMap)]) -> bool
+    ensures { result ≡ list_any (λ g. is_deep g.0) given.now }
+{
+    given.iter().any(|g| g.0.is_deep())
+}
+
+/// The kind of a given part, which `type` may not contradict.
+#[tactic(auto, unfolding(crate::specs::Head::kind_given))]
+fn kind_given(
+    flags: Flags,
+    part: u32,
+    given: PartKind,
+    map: &AttributeMap,
+) -> Result<PartKind, Refusal<HeaderFault>>
+    ensures { Gives (λ kind. kind) result (kind_given flags part (given, map.now)) }
+{
+    if !(flags.multi || flags.deep) {
+        return Ok(given);
+    }
+    let kind = typed_kind(part, map)?;
+    if !is_kind(kind, given) {
+        return Err(Refusal::Fault(HeaderFault::BadPartType { part }));
+    }
+    Ok(kind)
+}
+
+/// A given part behind earlier ones, which have so many chunks.
+#[tactic(auto, unfolding(crate::specs::Head::part_given))]
+fn part_given(
+    alloc: Global,
+    flags: Flags,
+    earlier: &[Header],
+    chunks: u64,
+    given: PartKind,
+    map: AttributeMap,
+) -> Result<Header, Refusal<HeaderFault>>
+    requires parts { length earlier.now < 2 ^ 32 }
+    requires counted { chunks ≡ sum_by chunk_count_of earlier.now }
+    requires few { chunks ≤ 2 ^ 20 }
+    ensures exact { Gives (λ header. header) result (part_given flags earlier.now (given, map)) }
+    ensures picture { IfOk result IsPicture }
+    ensures few { IfOk result (λ header. chunks + chunk_count_of header ≤ 2 ^ 20) }
+{
+    let kind = kind_given(flags, earlier.len() as u32, given, &map)?;
+    judged(alloc, flags, earlier, chunks, kind, map)
+}
+
+/// All given parts.
+fn parts_given(
+    alloc: Global,
+    flags: Flags,
+    mut given: Vec<(PartKind, AttributeMap)>,
+) -> Result<Vec<Header>, Refusal<HeaderFault>>
+    requires { length given.items ≤ 1024 }
+    ensures exact { Gives (λ parts. parts.items) result (parts_given flags [] given.items) }
+    ensures pictures { IfOk result (λ parts. All IsPicture parts.items) }
+{
+    given.reverse();
+    let mut parts = Vec::new(alloc);
+    let mut chunks = 0u64;
+    'each: loop {
+        match given.pop() {
+            None => return Ok(parts),
+            Some((kind, map)) => {
+                let part = part_given(alloc, flags, parts.as_slice(), chunks, kind, map)?;
+                chunks += chunk_count(&part);
+                parts.push(part)?;
+            }
+        }
+    }
+}
+
+/// A head, if its spelling is not too long.
+fn within(alloc: Global, head: FileHead) -> Result<FileHead, Refusal<HeaderFault>>
+    ensures { Gives (λ head. head) result (head_within head) }
+{
+    let bytes = write_head(alloc, &head)?;
+    if bytes.len() > 1 << 24 {
+        return Err(Refusal::Fault(HeaderFault::Limit(Bound::HeadBytes)));
+    }
+    Ok(head)
+}
+
+impl FileHead {
+    /// The head of these parts, at least one, and exactly one without the flag.
+    ///
+    /// More than 1,024 parts are Limit of parts. Then each part is judged as a reader judges it, with bits 11 and 12
+    /// as a writer sets them; where one of them is set, a `type` that names another kind than the one given is
+    /// BadPartType. Last of all, a spelling of more than 2^24 bytes is Limit of head bytes.
+    #[tactic(auto, unfolding(crate::specs::Head::head_given))]
+    pub fn new(
+        alloc: Global,
+        multi: bool,
+        parts: Vec<(PartKind, AttributeMap)>,
+    ) -> Result<FileHead, Refusal<HeaderFault>>
+        requires some { 1 ≤ length parts.items }
+        requires one { multi ≡ false → length parts.items ≡ 1 }
+        ensures { Gives (λ head. head) result (head_given multi parts.items) }
+    {
+        if parts.len() > 1024 {
+            return Err(Refusal::Fault(HeaderFault::Limit(Bound::Parts)));
+        }
+        let flags = flags_given(multi, parts.as_slice());
+        let parts = parts_given(alloc, flags, parts)?;
+        within(alloc, FileHead { multi, parts })
+    }
+}

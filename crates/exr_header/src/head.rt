@@ -1,0 +1,47 @@
+//! A head of a file: whether it is for many parts, and their headers.
+
+ghost use Rattle.std.specs.Prelude.{◌≡◌};
+
+use crate::header::Header;
+use std::marker::Model;
+
+/// The head of a file: a flag for many parts, and the headers, exactly one without the flag.
+///
+/// File Layout, "Components One and Two: Magic Number and Version Field" and "Component Three: Header".
+#[derive(Drop, Debug)]
+pub struct FileHead {
+    pub(crate) multi: bool,
+    pub(crate) parts: Vec<Header>,
+}
+
+impl Model for FileHead {
+    ghost use Rattle.std.specs.Prelude.{All};
+    ghost use Rattle.exr_header.specs.Head.{Head};
+    ghost use Rattle.exr_header.specs.Picture.{IsPicture};
+
+    ghost Value = { Head };
+
+    ghost view = { λ h. record { multi = h.multi; parts = h.parts.items } };
+
+    ghost invariant = { λ h. All IsPicture h.parts.items };
+}
+
+impl FileHead {
+    ghost use Rattle.std.specs.Prelude.{◌≡◌, All};
+    ghost use Rattle.exr_header.specs.Picture.{IsPicture};
+
+    /// Whether the file has headers for many parts, though it may have one alone.
+    pub fn multi(&self) -> bool
+        ensures { result ≡ self.now.multi }
+    {
+        self.multi
+    }
+
+    /// The headers, in their order.
+    pub fn parts(&self) -> &[Header]
+        ensures value { result.now ≡ self.now.parts }
+        ensures pictures { All IsPicture self.now.parts }
+    {
+        self.parts.as_slice()
+    }
+}

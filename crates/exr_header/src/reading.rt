@@ -1,0 +1,206 @@
+//! Reading the head of a file.
+
+ghost use Rattle.std.specs.Prelude.{◌≡◌, ◌≤◌, ◌<◌, ◌+◌, ◌^◌, [], All, length, sum_by, IfOk};
+ghost use Rattle.exr_base.specs.Refusal.{Gives};
+ghost use Rattle.exr_attributes.specs.Reading.{Reads, number_at};
+ghost use Rattle.exr_header.specs.Picture.{chunk_count_of, IsPicture};
+ghost use Rattle.exr_header.specs.Head.{has_bit, is_version, flags_of, word_at, version_at, kind_read, part_read, last_at, some_parts, parts_at, single_at, many_at, head_at, head_of};
+
+use crate::checks::{chunk_count, judged};
+use crate::head::FileHead;
+use crate::header::Header;
+use crate::kind::{Flags, PartKind};
+use crate::picture::typed_kind;
+use exr_attributes::{AttributeMap, Bound, Field, HeaderFault, head_bytes, read_attributes};
+use exr_base::{Cursor, Refusal};
+use std::alloc::Global;
+
+/// Whether a version word has a bit, by its weight.
+fn has_bit(weight: u32, word: u32) -> bool
+    requires { 1 ≤ weight }
+    ensures { result ≡ has_bit weight word }
+{
+    (word / weight) % 2 == 1
+}
+
+/// Whether a version word is one of version 2 with known bits.
+fn is_version(word: u32) -> bool
+    ensures { result ≡ is_version word }
+{
+    word % 512 == 2 && word / 512 < 16
+}
+
+/// The flags of a version word.
+fn flags_of(word: u32) -> Flags
+    ensures { result ≡ flags_of word }
+{
+    Flags {
+        multi: has_bit(4096, word),
+        deep: has_bit(2048, word),
+    }
+}
+
+/// The next four bytes, as a number.
+#[tactic(auto, unfolding(exr_attributes::specs::Reading::number_at))]
+fn number(from: &mut Cursor) -> Result<u32, Refusal<HeaderFault>>
+    ensures { Reads (λ number. number) result from.new (number_at from.old) }
+{
+    let bytes = head_bytes(from, 4)?;
+    Ok(u32::from_le_bytes([bytes[0], bytes[1], bytes[2], bytes[3]]))
+}
+
+/// A version word.
+#[tactic(auto, unfolding(crate::specs::Head::word_at))]
+fn version_word(from: &mut Cursor) -> Result<u32, Refusal<HeaderFault>>
+    ensures { Reads (λ word. word) result from.new (word_at from.old) }
+{
+    let word = number(from)?;
+    if !is_version(word) {
+        return Err(Refusal::Fault(HeaderFault::BadVersion { word }));
+    }
+    Ok(word)
+}
+
+/// The version word behind the magic number.
+#[tactic(auto, unfolding(crate::specs::Head::version_at))]
+fn version(from: &mut Cursor) -> Result<u32, Refusal<HeaderFault>>
+    ensures { Reads (λ word. word) result from.new (version_at from.old) }
+{
+    let first = head_bytes(from, 4)?;
+    if first != [0x76, 0x2f, 0x31, 0x01].as_slice() {
+        return Err(Refusal::Fault(HeaderFault::BadMagic));
+    }
+    version_word(from)
+}
+
+/// The kind of a part.
+#[tactic(auto, unfolding(crate::specs::Head::kind_read))]
+fn kind_read(word: u32, part: u32, map: &AttributeMap) -> Result<PartKind, Refusal<HeaderFault>>
+    ensures { Gives (λ kind. kind) result (kind_read word part map.now) }
+{
+    if has_bit(4096, word) || has_bit(2048, word) {
+        return typed_kind(part, map);
+    }
+    if has_bit(512, word) {
+        Ok(PartKind::Tiled)
+    } else {
+        Ok(PartKind::Scan)
+    }
+}
+
+/// The part of a header behind earlier ones, which have so many chunks.
+#[tactic(auto, unfolding(crate::specs::Head::part_read))]
+fn part_read(
+    alloc: Global,
+    word: u32,
+    earlier: &[Header],
+    chunks: u64,
+    map: AttributeMap,
+) -> Result<Header, Refusal<HeaderFault>>
+    requires parts { length earlier.now < 2 ^ 32 }
+    requires counted { chunks ≡ sum_by chunk_count_of earlier.now }
+    requires few { chunks ≤ 2 ^ 20 }
+    ensures exact { Gives (λ header. header) result (part_read word earlier.now map) }
+    ensures picture { IfOk result IsPicture }
+    ensures few { IfOk result (λ header. chunks + chunk_count_of header ≤ 2 ^ 20) }
+{
+    let kind = kind_read(word, earlier.len() as u32, &map)?;
+    judged(alloc, flags_of(word), earlier, chunks, kind, map)
+}
+
+/// What stands behind 1,024 headers: the zero that ends them.
+#[tactic(auto, unfolding(crate::specs::Head::last_at))]
+fn last(parts: Vec<Header>, from: &mut Cursor) -> Result<Vec<Header>, Refusal<HeaderFault>>
+    ensures exact { Reads (λ parts. parts.items) result from.new (last_at parts.items from.old) }
+    ensures same { IfOk result (λ all. all.items ≡ parts.items) }
+{
+    let byte = head_bytes(from, 1)?;
+    if byte[0] != 0 {
+        return Err(Refusal::Fault(HeaderFault::Limit(Bound::Parts)));
+    }
+    Ok(parts)
+}
+
+/// The headers of many parts, up to and with the zero that ends them.
+fn parts(alloc: Global, word: u32, from: &mut Cursor) -> Result<Vec<Header>, Refusal<HeaderFault>>
+    ensures exact { Reads (λ parts. parts.items) result from.new (parts_at 1024 word [] from.old) }
+    ensures pictures { IfOk result (λ parts. All IsPicture parts.items) }
+{
+    let mut parts = Vec::new(alloc);
+    let mut chunks = 0u64;
+    for _i in 0..1024usize {
+        let map = read_attributes(alloc, from)?;
+        if map.len() == 0 {
+            return some_parts(parts);
+        }
+        let part = part_read(alloc, word, parts.as_slice(), chunks, map)?;
+        chunks += chunk_count(&part);
+        parts.push(part)?;
+    }
+    last(parts, from)
+}
+
+/// The headers, of which there is one at least.
+fn some_parts(parts: Vec<Header>) -> Result<Vec<Header>, Refusal<HeaderFault>>
+    ensures exact { Gives (λ parts. parts.items) result (some_parts parts.items) }
+    ensures same { IfOk result (λ all. all.items ≡ parts.items) }
+{
+    if parts.is_empty() {
+        return Err(Refusal::Fault(HeaderFault::Missing {
+            part: 0,
+            field: Field::Channels,
+        }));
+    }
+    Ok(parts)
+}
+
+/// The one header of a file of one part.
+#[tactic(auto, unfolding(crate::specs::Head::single_at))]
+fn single(alloc: Global, word: u32, from: &mut Cursor) -> Result<FileHead, Refusal<HeaderFault>>
+    ensures { Reads (λ head. head) result from.new (single_at word from.old) }
+{
+    let map = read_attributes(alloc, from)?;
+    let mut parts = Vec::new(alloc);
+    let part = part_read(alloc, word, parts.as_slice(), 0, map)?;
+    parts.push(part)?;
+    Ok(FileHead {
+        multi: false,
+        parts,
+    })
+}
+
+/// The headers of a file of many parts.
+#[tactic(auto, unfolding(crate::specs::Head::many_at))]
+fn many(alloc: Global, word: u32, from: &mut Cursor) -> Result<FileHead, Refusal<HeaderFault>>
+    ensures { Reads (λ head. head) result from.new (many_at word from.old) }
+{
+    let parts = parts(alloc, word, from)?;
+    Ok(FileHead { multi: true, parts })
+}
+
+/// The head at the front of some bytes.
+#[tactic(auto, unfolding(crate::specs::Head::head_at))]
+fn head(alloc: Global, from: &mut Cursor) -> Result<FileHead, Refusal<HeaderFault>>
+    ensures { Reads (λ head. head) result from.new (head_at from.old) }
+{
+    let word = version(from)?;
+    if has_bit(4096, word) {
+        many(alloc, word, from)
+    } else {
+        single(alloc, word, from)
+    }
+}
+
+/// The head that the bytes begin with, and how many bytes it fills. The slice is the whole input.
+///
+/// The fault is the first from the front; after the closing byte of a header its part is judged.
+///
+/// File Layout, "Components One and Two: Magic Number and Version Field" and "Component Three: Header".
+#[tactic(auto, unfolding(crate::specs::Head::head_of))]
+pub fn read_head(alloc: Global, bytes: &[u8]) -> Result<(FileHead, usize), Refusal<HeaderFault>>
+    ensures { Gives (λ x. (x.0, x.1)) result (head_of bytes.now) }
+{
+    let mut from = Cursor::new(bytes);
+    let head = head(alloc, &mut from)?;
+    Ok((head, from.at()))
+}

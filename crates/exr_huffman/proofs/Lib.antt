@@ -1,0 +1,5 @@
+pub mod Nine
+pub mod Rests
+pub mod Rested
+pub mod Progress
+pub mod Unpacking

@@ -1,0 +1,5 @@
+pub mod Rest
+pub mod Tokens
+pub mod Blocks
+pub mod Nexts
+pub mod Parts

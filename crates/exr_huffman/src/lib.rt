@@ -1,0 +1,12 @@
+//! Huffman blocks: lists of 16-bit words, packed with codes of at most 58 bits and runs of equal words.
+#![tactic(auto)]
+
+mod block;
+mod data;
+mod fault;
+#[cfg(test)]
+mod tests;
+mod window;
+
+pub use block::unpack;
+pub use fault::HufFault;
