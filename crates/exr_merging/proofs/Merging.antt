@@ -1,10 +1,10 @@
 -- Merging keeps the weight of all trees, how often each entry stands in them, and the bounds on their depths.
-use Rattle.std.proofs.Common.{◌≡◌, ◌≢◌, ℕ, zero, suc, ◌+◌, ◌-◌, ◌*◌, ◌/◌, ◌%◌, ◌^◌, ◌<◌, ◌≤◌, ◌⊎◌, Bool, true, false, cond, eqb, ltb, ◌&&◌, ◌||◌, List, [], ◌∷◌, ◌++◌, length, take, drop, get_or, min, max, refl, sym, ap, ◌∙◌, ap₂, subst, inl, inr, arith, add-one, add-zero, zero-add}
+use Rattle.std.proofs.Common.{◌≡◌, ℕ, zero, suc, ◌+◌, ◌-◌, ◌/◌, ◌^◌, ◌<◌, ◌≤◌, true, false, cond, eqb, ltb, ◌&&◌, List, [], ◌∷◌, length, get_or, max, refl, sym, ap, ◌∙◌, ap₂, subst, inl, inr, arith, add-zero, zero-add}
 use Rattle.std.specs.List.{sum_by, sum, count_by}
-use Rattle.std.proofs.lemmas.Bool.{cases_lt, cases_eq, cases_Bool, cond_both, eq-eqb, ne_eqb, lt-ltb, le-ltb, ltb-true, ltb-false, eqb-true, eqb-false, or_cases, or_parts, and_parts}
+use Rattle.std.proofs.lemmas.Bool.{cases_lt, cases_eq, cond_both, eq-eqb, ne_eqb, lt-ltb, le-ltb, ltb-true, ltb-false, eqb-true, eqb-false, or_cases, or_parts, and_parts}
 use Rattle.std.proofs.lemmas.List.{length-append, get_or_append_left, get_or_at, get_or_past}
 use Rattle.std.proofs.lemmas.List.Sums.{sum_by-cons, sum_by_push}
-use Rattle.std.proofs.lemmas.Nat.{pow_pos, pow-add}
+use Rattle.std.proofs.lemmas.Nat.{pow-add}
 use Rattle.std.proofs.Math.Pow.{pow_mono}
 use Rattle.exr_codes.specs.Codes.{weight_of, IsComplete}
 use Rattle.exr_merging.specs.Trees.{Tree, leaf, node, tree_weight, least_entry, comes_first, insert_tree, leaves_from, merged_within, depth_of, depth_in, values_below, merged_lengths}
@@ -90,19 +90,30 @@ present k depth (node a b) some once = elim (cases_eq (times_in k a) 0) [
       (rw (p.0, p.1, add-zero, add-zero) q.0, omega arith)
 ]
 
+-- an entry that is there stands no higher than the root
+at_least : (k depth : ℕ) (t : Tree) → times_in k t ≡ 1 → depth ≤ depth_of depth t k
+at_least k depth (leaf weight entry) once = elim (cases_eq k entry) [
+  | inl same ↦ rw (eq-eqb k entry same) (omega arith)
+  | inr other ↦ absurd (let none : cond (eqb k entry) 1 0 ≡ 0 = rw (ne_eqb k entry other) refl in let clash : ◌≡◌ {A = ℕ} 0 1 = sym none ∙ once in omega arith)
+]
+at_least k depth (node a b) once = elim (cases_eq (times_in k a) 0) [
+  | inl none ↦ omega (arith, at_least k (depth + 1) b (omega arith))
+  | inr there ↦ omega (arith, at_least k (depth + 1) a (omega arith))
+]
+
 -- the same at the root, which is no leaf
 pub root_is : (k : ℕ) (a b : Tree) → times_in k (node a b) ≤ 1 → (weight_of (depth_of 0 (node a b) k) ≡ taken_by 0 (node a b) k) × (depth_of 0 (node a b) k ≤ height (node a b))
 root_is k a b few = elim (cases_eq (times_in k a) 0) [
   | inl none ↦ elim (cases_eq (times_in k b) 0) [
-      | inl nowhere ↦
-          let p = absent k 1 a none in
-          let q = absent k 1 b nowhere in
-          (rw (p.0, p.1, q.0, q.1) weight_none, omega arith)
-      | inr there ↦
-          let p = absent k 1 a none in
-          let q = present k 1 b (omega arith) (omega arith) in
-          (rw (p.0, p.1, zero-add (depth_of 1 b k), zero-add (taken_by 1 b k)) q.0, omega arith)
-    ]
+    | inl nowhere ↦
+        let p = absent k 1 a none in
+        let q = absent k 1 b nowhere in
+        (rw (p.0, p.1, q.0, q.1) weight_none, omega arith)
+    | inr there ↦
+        let p = absent k 1 a none in
+        let q = present k 1 b (omega arith) (omega arith) in
+        (rw (p.0, p.1, zero-add (depth_of 1 b k), zero-add (taken_by 1 b k)) q.0, omega arith)
+  ]
   | inr there ↦
       let p = absent k 1 b (omega arith) in
       let q = present k 1 a (omega arith) (omega arith) in
@@ -115,11 +126,11 @@ abbrev pub total : (ℕ → ℕ) → ℕ → ℕ
 total f zero = 0
 total f (suc n) = total f n + f n
 
-total-add : (f g : ℕ → ℕ) (n : ℕ) → total (λ k. f k + g k) n ≡ total f n + total g n
+pub total-add : (f g : ℕ → ℕ) (n : ℕ) → total (λ k. f k + g k) n ≡ total f n + total g n
 total-add f g zero = refl
 total-add f g (suc n) = let h = total-add f g n in omega arith
 
-total-same : (f g : ℕ → ℕ) (n : ℕ) → ((k : ℕ) → f k ≡ g k) → total f n ≡ total g n
+pub total-same : (f g : ℕ → ℕ) (n : ℕ) → ((k : ℕ) → f k ≡ g k) → total f n ≡ total g n
 total-same f g zero same = refl
 total-same f g (suc n) same = ap₂ ◌+◌ (total-same f g n same) (same n)
 
@@ -127,7 +138,7 @@ total-none : (entry w n : ℕ) → n ≤ entry → total (λ k. cond (eqb k entr
 total-none entry w zero past = refl
 total-none entry w (suc n) past = rw (total-none entry w n (omega arith), ne_eqb n entry (λ e. omega arith)) refl
 
-total-one : (entry w n : ℕ) → entry < n → total (λ k. cond (eqb k entry) w 0) n ≡ w
+pub total-one : (entry w n : ℕ) → entry < n → total (λ k. cond (eqb k entry) w 0) n ≡ w
 total-one entry w zero within = absurd (omega arith)
 total-one entry w (suc n) within = elim (cases_eq n entry) [
   | inl same ↦ rw (total-none entry w n (omega arith), eq-eqb n entry same) (zero-add w)
@@ -146,7 +157,7 @@ total_taken depth (node a b) n fits inside =
     let e : 58 - depth ≡ (58 - (depth + 1)) + 1 = omega arith in
     total-add (taken_by (depth + 1) a) (taken_by (depth + 1) b) n ∙ rw (e, pow-add 2 (58 - (depth + 1)) 1) (omega (arith, p, q))
 
-length-values_below : (f : ℕ → ℕ) (n : ℕ) → length (values_below f n) ≡ n
+pub length-values_below : (f : ℕ → ℕ) (n : ℕ) → length (values_below f n) ≡ n
 length-values_below f zero = refl
 length-values_below f (suc n) = rw (length-append, length-values_below f n) (omega arith)
 
@@ -170,12 +181,28 @@ leaves_times k entry (weight ∷ weights) =
     let here = leaf weight entry in
     let P : List Tree → Type 0 = λ (ts : List Tree). (sum_trees (times_in k) ts ≤ 1) × (k < entry → sum_trees (times_in k) ts ≡ 0) × (entry + suc (length weights) ≤ k → sum_trees (times_in k) ts ≡ 0) in
     let added : P (insert_tree here (leaves_from (entry + 1) weights)) =
-      rw (insert_sum (times_in k) here (leaves_from (entry + 1) weights)) (elim (cases_eq k entry) [
-        | inl same ↦ let none = h.1 (omega arith) in rw (none, eq-eqb k entry same) (omega arith, λ less. absurd (omega arith), λ past. absurd (omega arith))
-        | inr other ↦ rw (ne_eqb k entry other, zero-add) (h.0, λ less. h.1 (omega arith), λ past. h.2 (omega arith))
-      ])
+    rw (insert_sum (times_in k) here (leaves_from (entry + 1) weights)) (elim (cases_eq k entry) [
+      | inl same ↦ let none = h.1 (omega arith) in rw (none, eq-eqb k entry same) (omega arith, λ less. absurd (omega arith), λ past. absurd (omega arith))
+      | inr other ↦ rw (ne_eqb k entry other, zero-add) (h.0, λ less. h.1 (omega arith), λ past. h.2 (omega arith))
+    ])
     in
     cond_both (eqb weight 0) (leaves_from (entry + 1) weights) (insert_tree here (leaves_from (entry + 1) weights)) P (λ e. (h.0, λ less. h.1 (omega arith), λ past. h.2 (omega arith))) (λ e. added)
+
+leaves_times_some : (j entry : ℕ) (weights : List ℕ) → 0 < get_or weights j 0 → sum_trees (times_in (entry + j)) (leaves_from entry weights) ≡ 1
+leaves_times_some j entry [] some = absurd (omega arith)
+leaves_times_some zero entry (weight ∷ weights) some =
+    let here = leaf weight entry in
+    let others = leaves_from (entry + 1) weights in
+    let none = (leaves_times (entry + 0) (entry + 1) weights).1 (omega arith) in
+    rw (ne_eqb weight 0 (λ e. omega arith)) (insert_sum (times_in (entry + 0)) here others ∙ rw (none, eq-eqb (entry + 0) entry (omega arith)) refl)
+leaves_times_some (suc j) entry (weight ∷ weights) some =
+    let k = entry + suc j in
+    let here = leaf weight entry in
+    let others = leaves_from (entry + 1) weights in
+    let shift : k ≡ (entry + 1) + j = omega arith in
+    let h : sum_trees (times_in k) others ≡ 1 = subst (λ (i : ℕ). sum_trees (times_in i) others ≡ 1) (sym shift) (leaves_times_some j (entry + 1) weights some) in
+    cond_both (eqb weight 0) others (insert_tree here others) (λ (ts : List Tree). sum_trees (times_in k) ts ≡ 1) (λ e. h)
+    (λ e. insert_sum (times_in k) here others ∙ rw (h, ne_eqb k entry (λ f. omega arith)) refl)
 
 pub leaves_weight : (entry : ℕ) (weights : List ℕ) → sum_trees tree_weight (leaves_from entry weights) ≡ sum weights
 leaves_weight entry [] = refl
@@ -365,10 +392,10 @@ module _ (weights : List ℕ) (two : 2 ≤ count_by (λ w. ltb 0 w) weights) (li
       let low = small_height t is in
       let few = times_few t is in
       let at_most : (k : ℕ) → get_or (values_below f n) k 0 ≤ 51 =
-        λ k. elim (cases_lt k n) [
-          | inl within ↦ rw (get_or-values_below f n k within) (omega (arith, (root_is k a b (few k).0).1))
-          | inr past ↦ omega (arith, get_or_past (values_below f n) k 0 (omega (arith, length-values_below f n)))
-        ]
+      λ k. elim (cases_lt k n) [
+        | inl within ↦ rw (get_or-values_below f n k within) (omega (arith, (root_is k a b (few k).0).1))
+        | inr past ↦ omega (arith, get_or_past (values_below f n) k 0 (omega (arith, length-values_below f n)))
+      ]
       in
       let same : (k : ℕ) → weight_of (f k) ≡ taken_by 0 t k = λ k. rw (add-zero (depth_of 0 t k)) ((root_is k a b (few k).0).0) in
       (record { short = λ k. omega (arith, at_most k); full = sum_values_below weight_of f n ∙ total-same (λ k. weight_of (f k)) (taken_by 0 t) n same ∙ total_taken 0 t n (omega (arith, low)) (λ k past. (few k).1 past) }, at_most)
@@ -376,3 +403,29 @@ module _ (weights : List ℕ) (two : 2 ≤ count_by (λ w. ltb 0 w) weights) (li
   pub are_complete : IsComplete (merged_lengths weights) × ((k : ℕ) → get_or (merged_lengths weights) k 0 ≤ 51)
   unfolding merged_lengths
   are_complete = rw (left.1) (is_complete_at left.0 left.1)
+
+  is_there_at : (t : Tree) → merged_within (length weights) (leaves_from 0 weights) ≡ t ∷ [] → (k : ℕ) → k < length weights → 0 < get_or weights k 0 → 0 < get_or (values_below (depth_in (t ∷ [])) (length weights)) k 0
+  is_there_at (leaf weight entry) is k within some =
+      absurd (let same : ◌≡◌ {A = ℕ} 1 (sum_trees leaf_count (leaves_from 0 weights)) = sym (ap (sum_trees leaf_count) is ∙ add-zero 1) ∙ merged_sum leaf_count (λ a b. refl) (length weights) (leaves_from 0 weights) in omega (arith, same, leaves_count 0 weights, length-leaves 0 weights))
+  is_there_at (node a b) is k within some =
+      let t = node a b in
+      let once : times_in k t ≡ 1 =
+      let same : times_in k t + 0 ≡ sum_trees (times_in k) (leaves_from 0 weights) = ap (sum_trees (times_in k)) (sym is) ∙ merged_sum (times_in k) (λ x y. refl) (length weights) (leaves_from 0 weights) in
+      let one : sum_trees (times_in k) (leaves_from 0 weights) ≡ 1 = subst (λ (i : ℕ). sum_trees (times_in i) (leaves_from 0 weights) ≡ 1) (zero-add k) (leaves_times_some k 0 weights some) in
+      omega arith
+      in
+      let deep : 0 < depth_of 0 t k = elim (cases_eq (times_in k a) 0) [
+        | inl none ↦ omega (arith, at_least k 1 b (omega arith))
+        | inr there ↦ omega (arith, at_least k 1 a (omega arith))
+      ] in
+      rw (get_or-values_below (depth_in (t ∷ [])) (length weights) k within) (omega (arith, deep))
+
+  -- an entry with a weight has a code
+  pub has_code : (k : ℕ) → k < length weights → 0 < get_or weights k 0 → 0 < get_or (merged_lengths weights) k 0
+  unfolding merged_lengths
+  has_code k within some = rw (left.1) (is_there_at left.0 left.1 k within some)
+
+-- there are as many lengths as weights
+pub length-merged_lengths : (weights : List ℕ) → length (merged_lengths weights) ≡ length weights
+unfolding merged_lengths
+length-merged_lengths weights = length-values_below (depth_in (merged_within (length weights) (leaves_from 0 weights))) (length weights)

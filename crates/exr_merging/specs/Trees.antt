@@ -1,6 +1,6 @@
 -- Code lengths by merging: each entry with a weight is a tree; the two trees that come first by weight and then by their
 -- least entry are merged, again and again, until one is left; an entry's length is its depth.
-use Rattle.std.specs.Prelude.{◌≡◌, ℕ, zero, suc, ◌+◌, ◌≤◌, Bool, ◌&&◌, ◌||◌, ◌==◌, nat_lt, if◌then◌else◌, List, [], ◌∷◌, ◌++◌, length, min, slice_index}
+use Rattle.std.specs.Prelude.{ℕ, zero, suc, ◌+◌, ◌<◌, Bool, ◌&&◌, ◌||◌, ◌==◌, nat_lt, if◌then◌else◌, List, [], ◌∷◌, ◌++◌, length, min, slice_index}
 
 -- one entry with its weight, or two trees merged (own)
 pub data Tree : Type 0 where
@@ -56,3 +56,7 @@ values_below f (suc n) = values_below f n ++ f n ∷ []
 -- the code lengths of all entries (own)
 unfoldable pub merged_lengths : List ℕ → List ℕ
 merged_lengths weights = values_below (depth_in (merged_within (length weights) (leaves_from 0 weights))) (length weights)
+
+-- each entry with a weight has a code (own)
+abbrev pub HasCodes : List ℕ → Type 0
+HasCodes weights = (k : ℕ) → k < length weights → 0 < slice_index weights k → 0 < slice_index (merged_lengths weights) k
