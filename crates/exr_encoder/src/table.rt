@@ -63,16 +63,18 @@ mod tests {
     use super::*;
     use std::test::Fail;
 
-    // Two codes of one bit are `04 10`; 300 entries without a code between two of one bit are runs of 261 and 39.
+    // Two codes of one bit are `04 10`. Between two codes of one bit, a single entry without a code is six zero bits,
+    // three of them are the item 60, and seven are 63 with 1 behind it.
     #[test]
     fn tables(rt: HostRuntime) -> Result<(), Fail> {
         let two = write_table(rt.alloc(), &[1, 1])?;
         assert_eq!(rt; two.as_slice(), [0x04, 0x10].as_slice());
-        let mut lengths = vec![in rt.alloc(); 0u8; 302]?;
-        lengths[0] = 1;
-        lengths[301] = 1;
-        let far = write_table(rt.alloc(), &lengths)?;
-        assert_eq!(rt; far.as_slice(), [0x07, 0xff, 0xff, 0xc8, 0x41].as_slice());
+        let one_zero = write_table(rt.alloc(), &[1, 0, 1])?;
+        assert_eq!(rt; one_zero.as_slice(), [0x04, 0x00, 0x40].as_slice());
+        let three_zeros = write_table(rt.alloc(), &[1, 0, 0, 0, 1])?;
+        assert_eq!(rt; three_zeros.as_slice(), [0x07, 0xc0, 0x40].as_slice());
+        let seven_zeros = write_table(rt.alloc(), &[1, 0, 0, 0, 0, 0, 0, 0, 1])?;
+        assert_eq!(rt; seven_zeros.as_slice(), [0x07, 0xf0, 0x10, 0x40].as_slice());
         Ok(())
     }
 }
