@@ -1,8 +1,7 @@
 -- How the writer spells a table of code lengths: runs of entries without a code as long as they can be.
-use Rattle.std.specs.Prelude.{◌≡◌, ℕ, zero, suc, ◌+◌, ◌-◌, ◌<◌, Bool, ◌==◌, nat_le, if◌then◌else◌, List, [], ◌∷◌, ◌++◌, length, drop, min, slice_index, Some}
+use Rattle.std.specs.Prelude.{◌≡◌, ℕ, zero, suc, ◌+◌, ◌-◌, Bool, ◌==◌, nat_le, if◌then◌else◌, List, [], ◌∷◌, ◌++◌, length, drop, min, Some}
 use Rattle.std.specs.List.{prefix_len}
 use Rattle.exr_base.specs.Bits.{bits_of, bytes_of}
-use Rattle.exr_codes.specs.Codes.{IsComplete, code_number}
 use Rattle.exr_codes.specs.Tables.{table_of}
 
 -- so many entries without a code (own)
@@ -28,7 +27,3 @@ table_bits lengths = table_bits_within (length lengths) lengths
 -- what is written is read again (own)
 abbrev pub IsReadAgain : List ℕ → Type 0
 IsReadAgain lengths = table_of (length lengths) (bytes_of (table_bits lengths)) ≡ Some lengths
-
--- each code as a number (own)
-abbrev pub AreCodes : List ℕ → List ℕ → Type 0
-AreCodes lengths codes = (k : ℕ) → k < length lengths → 0 < slice_index lengths k → slice_index codes k ≡ code_number lengths k
