@@ -1,0 +1,6 @@
+pub mod Placing
+pub mod Levels
+pub mod Inverse
+pub mod LevelLaws
+pub mod Waves
+pub mod Worked

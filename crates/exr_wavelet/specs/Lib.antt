@@ -1,0 +1,4 @@
+pub mod Pair
+pub mod Level
+pub mod Wave
+pub mod Places
