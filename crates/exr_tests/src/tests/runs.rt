@@ -5,7 +5,7 @@ ghost use Rattle.exr_outside.specs.Fakes.{named_files, AreOf};
 
 use exr_base::NoMemory;
 use exr_outside::{Fails, Files, MemFiles, MemSink, PlainGate, World, are_of_one_world};
-use exr_tools::run;
+use exr_tools::{Stop, run};
 use std::alloc::Global;
 use std::marker::Brand;
 use std::process::Abort;
@@ -18,10 +18,10 @@ pub type Named = [&'static [u64]; 6];
 
 pub const NONE: Named = [&[], &[], &[], &[], &[], &[]];
 
-/// What came of a run: its status, what is kept under `b`, what was printed, and the counts of failures.
+/// What came of a run: why it stopped if it did, what is kept under `b`, what was printed, and the counts of failures.
 #[derive(Drop)]
 pub struct Outcome {
-    pub status: u8,
+    pub stop: Option<Stop>,
     pub kept: Option<Vec<u8>>,
     pub printed: Vec<u8>,
     pub read_faults: u64,
@@ -74,16 +74,13 @@ fn ran<R: Threads + Sync, W: World>(
         print_fails.to_vec(alloc)?,
         Vec::new(alloc),
     )?;
-    let status = match run::<_, W, _, _, _>(rt, alloc, words, &mut files, &mut out, &PlainGate) {
-        Ok(()) => 0,
-        Err(stop) => stop.status(),
-    };
+    let stop = run::<_, W, _, _, _>(rt, alloc, words, &mut files, &mut out, &PlainGate).err();
     let kept = match files.kept("b") {
         Some(bytes) => Some(bytes.to_vec(alloc)?),
         None => None,
     };
     Ok(Outcome {
-        status,
+        stop,
         kept,
         printed: out.bytes().to_vec(alloc)?,
         read_faults: files.read_faults(),

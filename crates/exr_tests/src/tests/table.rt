@@ -12,30 +12,30 @@ const EXTRACT: &[&str] = &["extract", "in=a", "out=b"];
 #[test]
 fn plain_files_and_others(rt: HostRuntime) -> Result<(), Fail> {
     let longer = [ONE_SAMPLE, &[0]].concat(rt.alloc())?;
-    // the file, the status, what is written, what is printed
-    let rows: [(&[u8], u8, Option<&[u8]>, &str); 7] = [
-        (ONE_SAMPLE, 0, Some(ONE_SAMPLE_RAW), "extract bytes 2\n"),
+    // the file, the stop, what is written, what is printed
+    let rows: [(&[u8], Option<Stop>, Option<&[u8]>, &str); 7] = [
+        (ONE_SAMPLE, None, Some(ONE_SAMPLE_RAW), "extract bytes 2\n"),
         (
             THREE_CHANNELS,
-            0,
+            None,
             Some(THREE_CHANNELS_RAW),
             "extract bytes 72\n",
         ),
         (
             TWENTY_LINES,
-            0,
+            None,
             Some(TWENTY_LINES_RAW),
             "extract bytes 40\n",
         ),
-        (MISPLACED_BLOCK, 7, None, ""),
-        (&ONE_SAMPLE[..294], 7, None, ""),
-        (&longer, 7, None, ""),
-        (&[], 7, None, ""),
+        (MISPLACED_BLOCK, Some(Stop::Form), None, ""),
+        (&ONE_SAMPLE[..294], Some(Stop::Form), None, ""),
+        (&longer, Some(Stop::Form), None, ""),
+        (&[], Some(Stop::Form), None, ""),
     ];
-    for (file, status, written, printed) in rows {
+    for (file, stop, written, printed) in rows {
         for words in [EXTRACT, &["extract", "out=b", "in=a"]] {
             let got = outcome_of(&rt, rt.alloc(), words, file, NONE)?;
-            assert_eq!(rt; got.status, status);
+            assert_eq!(rt; got.stop, stop);
             assert_eq!(rt; got.kept.as_ref().map(|v| v.as_slice()), written);
             assert_eq!(rt; got.printed.as_slice(), printed.as_bytes());
             assert_eq!(rt; (got.read_faults, got.write_faults), (0, 0));
@@ -46,24 +46,30 @@ fn plain_files_and_others(rt: HostRuntime) -> Result<(), Fail> {
 
 #[test]
 fn calls_that_fail(rt: HostRuntime) -> Result<(), Fail> {
-    // the calls to fail, the status, what is kept, the counts
-    let rows: [(Named, u8, Option<&[u8]>, u64, u64); 6] = [
-        ([&[0], &[], &[], &[], &[], &[]], 4, None, 1, 0),
-        ([&[], &[0], &[], &[], &[], &[]], 5, None, 0, 1),
-        ([&[], &[], &[0], &[], &[], &[]], 4, None, 1, 0),
-        ([&[], &[], &[], &[0], &[], &[]], 4, None, 1, 0),
-        ([&[], &[], &[], &[], &[0], &[]], 5, Some(&[]), 0, 1),
+    // the calls to fail, the stop, what is kept, the counts
+    let rows: [(Named, Stop, Option<&[u8]>, u64, u64); 6] = [
+        ([&[0], &[], &[], &[], &[], &[]], Stop::Read, None, 1, 0),
+        ([&[], &[0], &[], &[], &[], &[]], Stop::Write, None, 0, 1),
+        ([&[], &[], &[0], &[], &[], &[]], Stop::Read, None, 1, 0),
+        ([&[], &[], &[], &[0], &[], &[]], Stop::Read, None, 1, 0),
+        (
+            [&[], &[], &[], &[], &[0], &[]],
+            Stop::Write,
+            Some(&[]),
+            0,
+            1,
+        ),
         (
             [&[], &[], &[], &[], &[], &[0]],
-            5,
+            Stop::Write,
             Some(ONE_SAMPLE_RAW),
             0,
             0,
         ),
     ];
-    for (named, status, kept, read_faults, write_faults) in rows {
+    for (named, stop, kept, read_faults, write_faults) in rows {
         let got = outcome_of(&rt, rt.alloc(), EXTRACT, ONE_SAMPLE, named)?;
-        assert_eq!(rt; got.status, status);
+        assert_eq!(rt; got.stop, Some(stop));
         assert_eq!(rt; got.kept.as_ref().map(|v| v.as_slice()), kept);
         assert_eq!(rt; got.printed.len(), 0);
         assert_eq!(rt;
@@ -77,26 +83,27 @@ fn calls_that_fail(rt: HostRuntime) -> Result<(), Fail> {
 #[test]
 fn words_that_are_refused(rt: HostRuntime) -> Result<(), Fail> {
     let alloc = rt.alloc();
-    // the words, and the status; a name that is not there is a read fault
-    let rows: [(&[&str], u8); 14] = [
-        (&[], 2),
-        (&["extract"], 2),
-        (&["extract", "in=a"], 2),
-        (&["extract", "out=b"], 2),
-        (&["extract", "in=a", "out="], 2),
-        (&["extract", "in=", "out=b"], 2),
-        (&["extract", "in=a", "in=a"], 2),
-        (&["extract", "in=a", "out=b", "out=b"], 2),
-        (&["extract", "in=a", "out=b", "part=0"], 2),
-        (&["Extract", "in=a", "out=b"], 2),
-        (&["--help"], 2),
-        (&["in=a", "out=b"], 2),
-        (&["extract", "in=c", "out=b"], 4),
-        (&["extract", "in=in=a", "out=b"], 4),
+    let word = |position| Stop::Words { position };
+    // the words, and the stop; a name that is not there is a read fault
+    let rows: [(&[&str], Stop); 14] = [
+        (&[], word(0)),
+        (&["extract"], word(1)),
+        (&["extract", "in=a"], word(2)),
+        (&["extract", "out=b"], word(2)),
+        (&["extract", "in=a", "out="], word(2)),
+        (&["extract", "in=", "out=b"], word(1)),
+        (&["extract", "in=a", "in=a"], word(2)),
+        (&["extract", "in=a", "out=b", "out=b"], word(3)),
+        (&["extract", "in=a", "out=b", "part=0"], word(3)),
+        (&["Extract", "in=a", "out=b"], word(0)),
+        (&["--help"], word(0)),
+        (&["in=a", "out=b"], word(0)),
+        (&["extract", "in=c", "out=b"], Stop::Read),
+        (&["extract", "in=in=a", "out=b"], Stop::Read),
     ];
-    for (words, status) in rows {
+    for (words, stop) in rows {
         let got = outcome_of(&rt, alloc, words, ONE_SAMPLE, NONE)?;
-        assert_eq!(rt; got.status, status, "{words:?}");
+        assert_eq!(rt; got.stop, Some(stop), "{words:?}");
         assert!(rt; got.kept.is_none());
         assert_eq!(rt; got.printed.len(), 0);
     }
@@ -143,8 +150,8 @@ fn is_extracted_or_refused<R: Abort + AllocGlobal + Threads + Sync>(
     file: &[u8],
 ) -> Result<(), Fail> {
     let got = outcome_of(rt, rt.alloc(), EXTRACT, file, NONE)?;
-    assert!(rt; got.status == 0 || got.status == 7);
-    assert_eq!(rt; got.kept.is_some(), got.status == 0);
-    assert_eq!(rt; got.printed.is_empty(), got.status == 7);
+    assert!(rt; got.stop.is_none() || got.stop == Some(Stop::Form));
+    assert_eq!(rt; got.kept.is_some(), got.stop.is_none());
+    assert_eq!(rt; got.printed.is_empty(), got.stop.is_some());
     Ok(())
 }
