@@ -1,4 +1,2 @@
-pub mod Values
-pub mod Reading
 pub mod Rows
 pub mod Samples

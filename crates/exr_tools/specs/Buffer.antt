@@ -2,21 +2,16 @@
 -- from left to right.
 use Rattle.std.specs.Prelude.{◌≡◌, ◌+◌, ◌*◌, ◌<◌, ℕ, List, length, take, drop}
 use Rattle.exr_base.specs.Shape.{width_of, height_of}
-use Rattle.exr_header.specs.Plain.{Plain}
-use Rattle.exr_tools.specs.PlainFile.{sample_of, chunk_place}
+use Rattle.exr_tools.specs.PlainFile.{Plain, size_of, sample_of, chunk_place}
 use Rattle.exr_tools.specs.declared.plain_file.Lines.{Lines}
 
 -- where the sample of channel c in a column and a row stands
 abbrev pub place_in_buffer : Plain → ℕ → ℕ → ℕ → ℕ
 place_in_buffer h c column row = 2 * ((c * height_of h.window + row) * width_of h.window + column)
 
--- how many bytes the planes fill
-abbrev pub size_of : Plain → ℕ
-size_of h = 2 * (length h.channels * height_of h.window * width_of h.window)
-
 -- the buffer holds each sample of the file in its place, and nothing else
 pub record IsBuffer (file : List ℕ) (h : Plain) (buffer : List ℕ) : Type 0 where
-  pub size : length buffer ≡ size_of h
+  pub size : length buffer ≡ size_of h.channels h.window
   pub samples : (c column row : ℕ) → c < length h.channels → column < width_of h.window → row < height_of h.window
       → take 2 (drop (place_in_buffer h c column row) buffer) ≡ sample_of file h c column row
 

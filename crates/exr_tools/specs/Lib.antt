@@ -1,6 +1,6 @@
 pub mod PlainFile
+pub mod Views
+pub mod Stops
 pub mod Buffer
-pub mod Words
 pub mod Texts
-pub mod Read
 pub mod Run

@@ -1,12 +1,26 @@
 -- What the top call leaves, and why it stops.
-use Rattle.std.specs.Prelude.{◌≡◌, ◌⊎◌, ℕ, Bool, IsTrue, List, [], ◌∷◌, ◌++◌, length, Result, Ok, Err, MatchResult}
-use Rattle.exr_header.specs.Plain.{Plain}
+use Rattle.std.specs.Prelude.{◌≡◌, ◌⊎◌, ℕ, List, [], ◌∷◌, ◌++◌, length, Result, Ok, Err, MatchResult}
+use Rattle.exr_attributes.specs.declared.fault.HeaderFault.{HeaderFault}
+use Rattle.exr_header.specs.Head.{Head, head_of}
+use Rattle.exr_header.specs.Show.{head_text}
+use Rattle.exr_words.specs.Command.{Command, header, extract, first_of}
+use Rattle.exr_words.specs.Words.{command_of}
 use Rattle.exr_tools.specs.declared.stop.Stop.{Stop}
-use Rattle.exr_tools.specs.declared.stop.Stop.TheVariants.{NoMemory, Words, Read, Write, Form}
-use Rattle.exr_tools.specs.PlainFile.{IsPlainFile}
+use Rattle.exr_tools.specs.declared.stop.Stop.TheVariants.{NoMemory, Words, File, Read, Write, Form}
+use Rattle.exr_tools.specs.declared.stop.FileFault.{FileFault}
+use Rattle.exr_tools.specs.declared.stop.FileFault.TheVariants as fault
+use Rattle.exr_tools.specs.PlainFile.{Plain, IsPlainFile, IsOtherFile}
 use Rattle.exr_tools.specs.Buffer.{IsBuffer}
-use Rattle.exr_tools.specs.Words.{Extract, order_of}
 use Rattle.exr_tools.specs.Texts.{extract_line}
+
+-- ---- what a command does. Each part is said where the outside tells what it speaks of.
+
+-- the text is that of the file's head
+pub record IsTextOf (file text : List ℕ) : Type 0 where
+  pub head : Head
+  pub bytes : ℕ
+  pub found : head_of file ≡ Ok (head, bytes)
+  pub shown : text ≡ head_text head
 
 -- the buffer holds the samples of a plain file
 pub record IsExtracted (file buffer : List ℕ) : Type 0 where
@@ -14,17 +28,81 @@ pub record IsExtracted (file buffer : List ℕ) : Type 0 where
   pub plain : IsPlainFile file head
   pub samples : IsBuffer file head buffer
 
--- the file is no plain file
-abbrev pub IsNotPlain : List ℕ → Type 0
-IsNotPlain file = (h : Plain) → IsPlainFile file h → ⊥
+-- the text of a file's head is printed, and nothing is kept
+pub record Shows (file : List ℕ) (files_tell out_tells : Type 0) (kept kept_after : List (List ℕ × List ℕ)) (out out_after : List ℕ) : Type 0 where
+  pub text : List ℕ
+  pub shown : IsTextOf file text
+  pub written : files_tell → kept_after ≡ kept
+  pub printed : out_tells → out_after ≡ out ++ text
+
+-- the buffer of a plain file is kept under the output's name, and its line is printed
+pub record Writes (file output : List ℕ) (files_tell out_tells : Type 0) (kept kept_after : List (List ℕ × List ℕ)) (out out_after : List ℕ) : Type 0 where
+  pub buffer : List ℕ
+  pub extracted : IsExtracted file buffer
+  pub written : files_tell → kept_after ≡ kept ++ (output, buffer) ∷ []
+  pub printed : out_tells → out_after ≡ out ++ extract_line (length buffer)
+
+abbrev pub Does : Command → (List ℕ → List ℕ) → Type 0 → Type 0 → Type 0 → List (List ℕ × List ℕ) → List (List ℕ × List ℕ) → List ℕ → List ℕ → Type 0
+Does (header inputs) bytes_of files_tell sinks_tell out_tells = Shows (bytes_of (first_of inputs)) files_tell out_tells
+Does (extract inputs output) bytes_of files_tell sinks_tell out_tells = Writes (bytes_of (first_of inputs)) output (files_tell × sinks_tell) out_tells
+
+-- the words have a command, and it was done
+pub record Obeys (bytes_of : List ℕ → List ℕ) (source_tells files_tell sinks_tell out_tells : Type 0) (words : List (List ℕ)) (kept kept_after : List (List ℕ × List ℕ)) (out out_after : List ℕ) : Type 0 where
+  pub command : Command
+  pub order : command_of words ≡ Ok command
+  pub does : source_tells → Does command bytes_of files_tell sinks_tell out_tells kept kept_after out out_after
+
+-- ---- stops that the input calls for
+
+-- what is wrong with a file
+abbrev pub HasFault : List ℕ → FileFault → Type 0
+HasFault file (fault.Head f) = head_of file ≡ Err f
+
+-- the stop is that of a fault of the command's first file
+abbrev pub IsFaulty : Stop → List ℕ → Type 0
+IsFaulty (File index f) file = (index ≡ 0) × HasFault file f
+IsFaulty stop file = ⊥
+
+-- the stop is that of a fault, or of a form that is not read so far
+abbrev pub IsFaultyOrOther : Stop → List ℕ → Type 0
+IsFaultyOrOther Form file = IsOtherFile file
+IsFaultyOrOther stop file = IsFaulty stop file
+
+-- the stop that the input of a command calls for
+abbrev pub IsDue : Command → (List ℕ → List ℕ) → Stop → Type 0
+IsDue (header inputs) bytes_of stop = IsFaulty stop (bytes_of (first_of inputs))
+IsDue (extract inputs output) bytes_of stop = IsFaultyOrOther stop (bytes_of (first_of inputs))
+
+-- the stop is that of a form
+abbrev pub IsForm : Stop → Type 0
+IsForm Form = Unit {0}
+IsForm stop = ⊥
+
+-- the input calls for no stop
+abbrev pub IsSound : Command → (List ℕ → List ℕ) → Type 0
+IsSound (header inputs) bytes_of = (text : List ℕ) × IsTextOf (bytes_of (first_of inputs)) text
+IsSound (extract inputs output) bytes_of = (h : Plain) × IsPlainFile (bytes_of (first_of inputs)) h
 
 -- the fact that goes with each stop; want of memory needs none
-abbrev pub HasReason : Stop → (ℕ → Type 0) → Type 0 → Type 0 → Type 0 → Type 0
-HasReason NoMemory words read write form = Unit {0}
-HasReason (Words position) words read write form = words position
-HasReason Read words read write form = read
-HasReason Write words read write form = write
-HasReason Form words read write form = form
+abbrev pub HasReason : Stop → (ℕ → Type 0) → (Stop → Type 0) → Type 0 → Type 0 → Type 0
+HasReason NoMemory words due read write = Unit {0}
+HasReason (Words position) words due read write = words position
+HasReason (File file f) words due read write = due (File file f)
+HasReason Read words due read write = read
+HasReason Write words due read write = write
+HasReason Form words due read write = due Form
+
+-- a stop other than want of memory owes one of two rises
+abbrev pub OwesRise : Stop → Type 0 → Type 0 → Type 0
+OwesRise NoMemory read write = Unit {0}
+OwesRise stop read write = read ⊎ write
+
+-- the answer is this stop, or another that owes a rise
+abbrev pub StopsOr : Result (Unit {0}) Stop → Stop → Type 0 → Type 0 → Type 0
+StopsOr (Ok done) due read write = ⊥
+StopsOr (Err stop) due read write = (stop ≡ due) ⊎ OwesRise stop read write
+
+-- ---- what is asked of the outside
 
 -- a name was asked once at the most
 abbrev pub AsksAtMost : List (List ℕ) → List (List ℕ) → List ℕ → Type 0
@@ -34,37 +112,30 @@ AsksAtMost old new name = (new ≡ old) ⊎ (new ≡ old ++ name ∷ [])
 abbrev pub KeepsAtMost : List (List ℕ × List ℕ) → List (List ℕ × List ℕ) → List ℕ → Type 0
 KeepsAtMost old new name = (new ≡ old) ⊎ ((bytes : List ℕ) × (new ≡ old ++ (name, bytes) ∷ []))
 
--- a plain file was read, its buffer is kept under the output's name, and its line is printed; each part is said where
--- the outside tells what it speaks of
-pub record Writes (file output : List ℕ) (files_tell out_tells : Type 0) (kept kept_after : List (List ℕ × List ℕ)) (out out_after : List ℕ) : Type 0 where
-  pub buffer : List ℕ
-  pub extracted : IsExtracted file buffer
-  pub written : files_tell → kept_after ≡ kept ++ (output, buffer) ∷ []
-  pub printed : out_tells → out_after ≡ out ++ extract_line (length buffer)
-
--- the words ask for an extraction, and what they name was extracted
-pub record Extracts (bytes_of : List ℕ → List ℕ) (source_tells files_tell out_tells : Type 0) (words : List (List ℕ)) (kept kept_after : List (List ℕ × List ℕ)) (out out_after : List ℕ) : Type 0 where
-  pub asked : Extract
-  pub order : order_of words ≡ Ok asked
-  pub writes : source_tells → Writes (bytes_of asked.input) asked.output files_tell out_tells kept kept_after out out_after
-
 -- a fact of what the words ask for, and another where they are faulty
-abbrev pub ByOrder : List (List ℕ) → (Extract → Type 0) → Type 0 → Type 0
-ByOrder words fact other = MatchResult (order_of words) fact (λ _. other)
+abbrev pub ByCommand : List (List ℕ) → (Command → Type 0) → Type 0 → Type 0
+ByCommand words fact other = MatchResult (command_of words) fact (λ _. other)
 
--- the words ask for an extraction from this file
-abbrev pub AsksFor : (List ℕ → List ℕ) → List (List ℕ) → List ℕ → Type 0
-AsksFor bytes_of words file = (asked : Extract) × (order_of words ≡ Ok asked) × (file ≡ bytes_of asked.input)
+-- the names of inputs that a command opens
+abbrev pub Opens : Command → List (List ℕ) → List (List ℕ) → Type 0
+Opens (header inputs) old new = AsksAtMost old new (first_of inputs)
+Opens (extract inputs output) old new = AsksAtMost old new (first_of inputs)
+
+-- the names that a command creates
+abbrev pub Creates : Command → List (List ℕ) → List (List ℕ) → Type 0
+Creates (header inputs) old new = new ≡ old
+Creates (extract inputs output) old new = AsksAtMost old new output
+
+-- the pairs that a command keeps
+abbrev pub Keeps : Command → List (List ℕ × List ℕ) → List (List ℕ × List ℕ) → Type 0
+Keeps (header inputs) old new = new ≡ old
+Keeps (extract inputs output) old new = KeepsAtMost old new output
 
 -- the stops that come before a file is created
 abbrev pub IsBeforeWriting : Stop → Type 0
 IsBeforeWriting NoMemory = ⊥
 IsBeforeWriting (Words position) = Unit {0}
+IsBeforeWriting (File file f) = Unit {0}
 IsBeforeWriting Read = Unit {0}
 IsBeforeWriting Write = ⊥
 IsBeforeWriting Form = Unit {0}
-
--- a stop other than want of memory owes one of two rises
-abbrev pub OwesRise : Stop → Type 0 → Type 0 → Type 0
-OwesRise NoMemory read write = Unit {0}
-OwesRise stop read write = read ⊎ write

@@ -1,7 +1,10 @@
 -- What the program prints, and the status that it ends with.
 use Rattle.std.specs.Prelude.{ℕ, List, [], ◌∷◌, ◌++◌, codes, decimal}
+use Rattle.exr_attributes.specs.Fault.{number_of}
 use Rattle.exr_tools.specs.declared.stop.Stop.{Stop}
-use Rattle.exr_tools.specs.declared.stop.Stop.TheVariants.{NoMemory, Words, Read, Write, Form}
+use Rattle.exr_tools.specs.declared.stop.Stop.TheVariants.{NoMemory, Words, File, Read, Write, Form}
+use Rattle.exr_tools.specs.declared.stop.FileFault.{FileFault}
+use Rattle.exr_tools.specs.declared.stop.FileFault.TheVariants.{Head}
 
 -- the line that an extraction of so many bytes prints
 abbrev pub extract_line : ℕ → List ℕ
@@ -11,14 +14,20 @@ extract_line count = codes "extract bytes " ++ decimal count ++ 10 ∷ []
 abbrev pub status_of : Stop → ℕ
 status_of NoMemory = 1
 status_of (Words position) = 2
+status_of (File file fault) = 3
 status_of Read = 4
 status_of Write = 5
 status_of Form = 7
+
+-- what is wrong with a file
+abbrev pub fault_text : FileFault → List ℕ
+fault_text (Head fault) = codes "head fault " ++ decimal (number_of fault)
 
 -- the line of a stop
 abbrev pub line_of : Stop → List ℕ
 line_of NoMemory = codes "exr: no memory" ++ 10 ∷ []
 line_of (Words position) = codes "exr: word " ++ decimal position ++ 10 ∷ []
+line_of (File file fault) = codes "exr: file " ++ decimal file ++ codes " " ++ fault_text fault ++ 10 ∷ []
 line_of Read = codes "exr: read fault" ++ 10 ∷ []
 line_of Write = codes "exr: write fault" ++ 10 ∷ []
 line_of Form = codes "exr: form" ++ 10 ∷ []

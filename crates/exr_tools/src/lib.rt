@@ -2,11 +2,13 @@
 #![tactic(auto)]
 
 mod extract;
+mod header;
 mod plain_file;
+mod plain_head;
 mod planes;
+mod print;
 mod stop;
 mod top;
-mod words;
 
-pub use stop::{Stop, stop_line};
+pub use stop::{FileFault, Stop, stop_line};
 pub use top::run;

@@ -5,11 +5,10 @@
 
 ghost use Rattle.std.specs.Prelude.{◌≡◌, ◌+◌, ◌*◌, ◌<◌, ◌≤◌, ◌^◌, ◌↔◌, IsTrue, length, take, drop, pos, ◌+ℤ◌};
 ghost use Rattle.std.specs.Int.{w32, w64, from_le_bytes, cast_signed};
-ghost use Rattle.exr_header.specs.Plain.{HasPlainHead, IsWithinLimits};
-ghost use Rattle.exr_header.specs.Views.{plain_of};
-ghost use Rattle.exr_tools.specs.PlainFile.{lines_of, chunk_place, number_in, IsPlainChunk, IsPlainFile, AreSmall};
+ghost use Rattle.exr_tools.specs.PlainFile.{lines_of, chunk_place, number_in, IsPlainChunk, HasPlainChunks, IsWithinLimits, AreSmall};
+ghost use Rattle.exr_tools.specs.Views.{plain_of};
 
-use exr_header::PlainHead;
+use crate::plain_head::PlainHead;
 
 /// What a head says of the lines of its file, each of which is a chunk.
 #[derive(Clone, Copy)]
@@ -26,18 +25,16 @@ pub struct Lines {
 
 impl Lines {
     /// What this head says.
-    pub fn of(head: &PlainHead) -> Lines
-        requires { IsWithinLimits (plain_of head.now) }
-        ensures lines { result ≡ lines_of (plain_of head.now) }
+    pub fn of(head: PlainHead<'_>) -> Lines
+        requires { IsWithinLimits (plain_of head) }
+        ensures lines { result ≡ lines_of (plain_of head) }
         ensures small { AreSmall result }
     {
-        let width = head.width() as usize;
-        let count = head.height() as usize;
         Lines {
             front: head.bytes,
-            count,
+            count: head.height(),
             first: head.window.y0,
-            size: 2 * head.channels.len() * width,
+            size: 2 * head.channels.len() * head.width(),
         }
     }
 
@@ -51,12 +48,11 @@ impl Lines {
     }
 }
 
-/// Whether the bytes behind a plain head are its table and its chunks, and nothing more.
-pub fn is_plain_file(bytes: &[u8], head: &PlainHead) -> bool
-    requires { HasPlainHead bytes.now (plain_of head.now) }
-    ensures { IsTrue result ↔ IsPlainFile bytes.now (plain_of head.now) }
+/// Whether the bytes behind a head are the table and the chunks of these lines, and nothing more.
+pub fn has_plain_chunks(bytes: &[u8], lines: Lines) -> bool
+    requires { AreSmall lines }
+    ensures { IsTrue result ↔ HasPlainChunks bytes.now lines }
 {
-    let lines = Lines::of(head);
     if bytes.len() != lines.place(lines.count) {
         return false;
     }

@@ -1,20 +1,20 @@
 //! The samples of a plain file as a buffer of planes, row by row.
 
 ghost use Rattle.std.specs.Prelude.{◌≡◌, ◌≢◌, ◌+◌, ◌*◌, ◌<◌, ◌≤◌, ◌^◌, ℕ, IfOk, length, take, drop};
-ghost use Rattle.exr_header.specs.Plain.{IsWithinLimits};
-ghost use Rattle.exr_header.specs.Views.{plain_of};
-ghost use Rattle.exr_tools.specs.PlainFile.{IsPlainFile, AreSmall, chunk_place};
-ghost use Rattle.exr_tools.specs.Buffer.{size_of, IsBuffer, row_of, line_in};
+ghost use Rattle.exr_tools.specs.PlainFile.{size_of, lines_of, HasPlainChunks, IsWithinLimits, AreSmall, chunk_place};
+ghost use Rattle.exr_tools.specs.Buffer.{IsBuffer, row_of, line_in};
+ghost use Rattle.exr_tools.specs.Views.{plain_of};
 
 use crate::plain_file::Lines;
+use crate::plain_head::PlainHead;
 use exr_base::NoMemory;
-use exr_header::PlainHead;
 use std::alloc::Global;
 
-/// The buffer of a plain file: a plane a channel, one behind the other.
-pub fn planes(alloc: Global, bytes: &[u8], head: &PlainHead) -> Result<Vec<u8>, NoMemory>
-    requires { IsPlainFile bytes.now (plain_of head.now) }
-    ensures { IfOk result (λ buffer. IsBuffer bytes.now (plain_of head.now) buffer.items) }
+/// The buffer of a file with a plain head: a plane a channel, one behind the other.
+pub fn planes(alloc: Global, bytes: &[u8], head: PlainHead<'_>) -> Result<Vec<u8>, NoMemory>
+    requires limits { IsWithinLimits (plain_of head) }
+    requires chunks { HasPlainChunks bytes.now (lines_of (plain_of head)) }
+    ensures { IfOk result (λ buffer. IsBuffer bytes.now (plain_of head) buffer.items) }
 {
     let mut buffer = vec![in alloc; 0u8; buffer_size(head)]?;
     fill(&mut buffer, bytes, head);
@@ -22,28 +22,28 @@ pub fn planes(alloc: Global, bytes: &[u8], head: &PlainHead) -> Result<Vec<u8>, 
 }
 
 /// How many bytes the planes fill.
-fn buffer_size(head: &PlainHead) -> usize
-    requires { IsWithinLimits (plain_of head.now) }
-    ensures { result ≡ size_of (plain_of head.now) }
+fn buffer_size(head: PlainHead<'_>) -> usize
+    requires { IsWithinLimits (plain_of head) }
+    ensures { result ≡ size_of head.channels.now head.window }
 {
-    2 * (head.channels.len() * head.height() as usize * head.width() as usize)
+    2 * head.channels.len() * head.width() * head.height()
 }
 
 /// Puts all lines of a plain file into the buffer.
-fn fill(buffer: &mut [u8], bytes: &[u8], head: &PlainHead)
-    requires file { IsPlainFile bytes.now (plain_of head.now) }
-    requires size { length buffer.old ≡ size_of (plain_of head.now) }
-    ensures { IsBuffer bytes.now (plain_of head.now) buffer.new }
+fn fill(buffer: &mut [u8], bytes: &[u8], head: PlainHead<'_>)
+    requires limits { IsWithinLimits (plain_of head) }
+    requires chunks { HasPlainChunks bytes.now (lines_of (plain_of head)) }
+    requires size { length buffer.old ≡ size_of head.channels.now head.window }
+    ensures { IsBuffer bytes.now (plain_of head) buffer.new }
 {
     let lines = Lines::of(head);
-    let width = 2 * head.width() as usize;
-    put_lines(buffer, bytes, lines, head.channels.len(), width);
+    put_lines(buffer, bytes, lines, head.channels.len(), 2 * head.width());
 }
 
 /// Puts each line of the file into its rows of the buffer.
 fn put_lines(buffer: &mut [u8], bytes: &[u8], lines: Lines, channels: usize, width: usize)
     requires small { AreSmall lines }
-    requires few { channels ≤ 2 ^ 26 }
+    requires few { channels ≤ 1024 }
     requires size { lines.size ≡ channels * width }
     requires whole { length bytes.now ≡ chunk_place lines lines.count }
     requires buffer { length buffer.old ≡ channels * lines.count * width }
@@ -70,7 +70,7 @@ fn line_of(bytes: &[u8], lines: Lines, row: usize) -> &[u8]
 
 /// Puts the samples of a line into the buffer, those of each channel as row `row` of its plane of `rows` rows.
 fn put_line(buffer: &mut [u8], rows: usize, row: usize, width: usize, line: &[u8], channels: usize)
-    requires few { channels ≤ 2 ^ 26 }
+    requires few { channels ≤ 1024 }
     requires rows { rows ≤ 2 ^ 20 }
     requires row { row < rows }
     requires line { length line.now ≡ channels * width }

@@ -2,11 +2,23 @@
 
 ghost use Rattle.std.specs.Prelude.{◌≡◌, IfOk};
 ghost use Rattle.exr_tools.specs.declared.stop.Stop.TheVariants as stop;
+ghost use Rattle.exr_tools.specs.Stops.{stop_of_words, stop_of_opening};
 ghost use Rattle.exr_tools.specs.Texts.{status_of, line_of};
 
-use exr_base::NoMemory;
+use exr_attributes::HeaderFault;
+use exr_base::{NoMemory, Refusal};
+use exr_opening::OpenFault;
+use exr_words::WordFault;
 use std::alloc::{AllocError, AllocFailed, Global};
 use thiserror::Error;
+
+/// What is wrong with a file.
+#[derive(Clone, Copy, Debug, PartialEq, Eq, Error)]
+pub enum FileFault {
+    /// It begins with no head; the first fault from the front.
+    #[error("head fault: {0}")]
+    Head(HeaderFault),
+}
 
 /// Why a command stopped. The program prints its line on standard error and ends with its status.
 #[derive(Clone, Copy, Debug, PartialEq, Eq, Error)]
@@ -17,6 +29,9 @@ pub enum Stop {
     /// The word at this position, counted from 0, is not allowed; or a needed one is missing behind the last.
     #[error("word {position}")]
     Words { position: u32 },
+    /// A file has a fault; files are counted from 0, in the order of the words.
+    #[error("file {file}: {fault}")]
+    File { file: u32, fault: FileFault },
     /// A file could not be opened or read.
     #[error("read fault")]
     Read,
@@ -36,6 +51,7 @@ impl Stop {
         match self {
             Stop::NoMemory => 1,
             Stop::Words { position: _ } => 2,
+            Stop::File { file: _, fault: _ } => 3,
             Stop::Read => 4,
             Stop::Write => 5,
             Stop::Form => 7,
@@ -50,6 +66,11 @@ pub fn stop_line(alloc: Global, stop: &Stop) -> Result<Vec<u8>, NoMemory>
     let line = match stop {
         Stop::NoMemory => format!(in alloc; "exr: no memory\n")?,
         Stop::Words { position } => format!(in alloc; "exr: word {position}\n")?,
+        Stop::File { file, fault } => {
+            let FileFault::Head(head) = fault;
+            let number = head.number();
+            format!(in alloc; "exr: file {file} head fault {number}\n")?
+        }
         Stop::Read => format!(in alloc; "exr: read fault\n")?,
         Stop::Write => format!(in alloc; "exr: write fault\n")?,
         Stop::Form => format!(in alloc; "exr: form\n")?,
@@ -62,6 +83,33 @@ impl From<NoMemory> for Stop {
 
     fn from(_error: NoMemory) -> Stop {
         Stop::NoMemory
+    }
+}
+
+impl From<Refusal<WordFault>> for Stop {
+    ghost from_gives = { λ refusal e. e ≡ stop_of_words refusal };
+
+    fn from(refusal: Refusal<WordFault>) -> Stop {
+        match refusal {
+            Refusal::Fault(WordFault { position }) => Stop::Words { position },
+            Refusal::NoMemory => Stop::NoMemory,
+        }
+    }
+}
+
+// The file is the first of the command.
+impl From<Refusal<OpenFault>> for Stop {
+    ghost from_gives = { λ refusal e. e ≡ stop_of_opening refusal };
+
+    fn from(refusal: Refusal<OpenFault>) -> Stop {
+        match refusal {
+            Refusal::Fault(OpenFault::Read) => Stop::Read,
+            Refusal::Fault(OpenFault::Head(fault)) => Stop::File {
+                file: 0,
+                fault: FileFault::Head(fault),
+            },
+            Refusal::NoMemory => Stop::NoMemory,
+        }
     }
 }
 

@@ -2,8 +2,8 @@
 use Rattle.std.proofs.Common.{◌≡◌, ◌++◌, length, not, sym, ap, ◌∙◌, refl}
 use Rattle.std.specs.Bool.{then_some}
 use Rattle.std.specs.Option.{option_map}
-use Rattle.exr_tools.proofs.Values.{no_value, value_taken}
-use Rattle.exr_tools.proofs.words.value.Goals as goal
+use Rattle.exr_words.proofs.Values.{no_value, value_taken}
+use Rattle.exr_words.proofs.words.value.Goals as goal
 
 pub returns-in-None : goal.returns-in-None
 returns-in-None c = sym (no_value c.args.key.now c.args.word.now c.in-None.ensures.cases)

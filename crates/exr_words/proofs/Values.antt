@@ -7,7 +7,7 @@ use Rattle.std.proofs.lemmas.Slice.Eq.{starts_is}
 use Rattle.std.proofs.Math.Seq.{drop-append_seam}
 use Rattle.std.proofs.lemmas.Bool.{false≢true}
 use Rattle.std.proofs.lemmas.Bool.Decides.{nat_tests, Decides-eqb}
-use Rattle.exr_tools.specs.Words.{value_of}
+use Rattle.exr_words.specs.Words.{value_of}
 
 -- a word begins with a key where it is the key and some rest
 starts : (key word rest : List ℕ) → word ≡ key ++ rest → starts_with nat_eq word key ≡ true

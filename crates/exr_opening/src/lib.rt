@@ -1,0 +1,9 @@
+//! Opening a file: its head, read from a source in few pieces.
+#![tactic(auto)]
+
+mod opening;
+
+pub use opening::{OpenFault, Opened, open_head};
+
+#[cfg(test)]
+mod tests;

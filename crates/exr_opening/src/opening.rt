@@ -1,0 +1,114 @@
+//! The head of a file, read from a source in pieces that grow twofold, so that little more is read than the head.
+
+ghost use Rattle.std.specs.Prelude.{◌≡◌, ◌+◌, ◌≤◌, ◌^◌, ◌++◌, min, ℕ, IsTrue, IfOk, length, take};
+ghost use Rattle.exr_outside.specs.Source.{IsSameSource};
+ghost use Rattle.exr_outside.specs.Count.{Rose, HasFaultCause};
+ghost use Rattle.exr_opening.specs.Opening.{Opens, Finds, OwesRead};
+
+use exr_attributes::HeaderFault;
+use exr_base::{Failed, Refusal};
+use exr_header::{FileHead, read_head};
+use exr_outside::{Source, read_full};
+use std::alloc::Global;
+use thiserror::Error;
+
+/// The bytes of the first piece.
+const FIRST: usize = 1 << 16;
+
+/// The most bytes that are looked at: a head has at most 2^24, and one more tells that the input goes on.
+const MOST: u64 = (1 << 24) + 1;
+
+/// Why a file could not be opened.
+#[derive(Clone, Copy, Debug, PartialEq, Eq, Error)]
+pub enum OpenFault {
+    /// The source failed.
+    #[error("read fault")]
+    Read,
+    /// The bytes begin with no head.
+    #[error("head fault")]
+    Head(HeaderFault),
+}
+
+/// The front of a file.
+#[derive(Drop, Debug)]
+pub struct Opened {
+    pub head: FileHead,
+    /// How many bytes the head fills, at most 2^24.
+    pub head_bytes: usize,
+    /// How many bytes the source has.
+    pub length: u64,
+}
+
+/// The head that a source begins with.
+///
+/// At most twice its bytes and 64 KiB are read, and never more than 2^24 + 1.
+pub fn open_head<S: Source>(alloc: Global, source: &mut S) -> Result<Opened, Refusal<OpenFault>>
+    ensures opened { IsTrue S.means.tells → Opens result (S.means.content source.old) }
+    ensures small { IfOk result (λ o. o.head_bytes ≤ 2 ^ 24) }
+    ensures same { IsSameSource S.means source.old source.new }
+    ensures later { S.means.faults source.old ≤ S.means.faults source.new }
+    ensures read { OwesRead result (Rose (S.means.faults source.old) (S.means.faults source.new)) }
+{
+    let Ok(length) = source.len() else {
+        return Err(Refusal::Fault(OpenFault::Read));
+    };
+    let (head, head_bytes) = head_within(alloc, source, length.min(MOST) as usize)?;
+    Ok(Opened {
+        head,
+        head_bytes,
+        length,
+    })
+}
+
+/// The head in the first `most` bytes of a source.
+fn head_within<S: Source>(
+    alloc: Global,
+    source: &mut S,
+    most: usize,
+) -> Result<(FileHead, usize), Refusal<OpenFault>>
+    requires most { IsTrue S.means.tells → most ≡ min (length (S.means.content source.old)) (2 ^ 24 + 1) }
+    requires small { most ≤ 2 ^ 24 + 1 }
+    ensures found { IsTrue S.means.tells → Finds result (S.means.content source.old) }
+    ensures small { IfOk result (λ x. x.1 ≤ 2 ^ 24) }
+    ensures same { IsSameSource S.means source.old source.new }
+    ensures later { S.means.faults source.old ≤ S.means.faults source.new }
+    ensures read { OwesRead result (Rose (S.means.faults source.old) (S.means.faults source.new)) }
+{
+    let mut bytes = Vec::new(alloc);
+    let mut wanted = most.min(FIRST);
+    'grow: loop {
+        bytes = longer(alloc, source, bytes, wanted)?;
+        match read_head(alloc, &bytes) {
+            Err(Refusal::Fault(HeaderFault::Truncated { .. })) if wanted < most => {
+                wanted = (2 * wanted).min(most);
+            }
+            Ok(found) => return Ok(found),
+            Err(Refusal::Fault(fault)) => return Err(Refusal::Fault(OpenFault::Head(fault))),
+            Err(Refusal::NoMemory) => return Err(Refusal::NoMemory),
+        }
+    }
+}
+
+/// The first `wanted` bytes of a source, of which some were read before.
+fn longer<S: Source>(
+    alloc: Global,
+    source: &mut S,
+    mut bytes: Vec<u8>,
+    wanted: usize,
+) -> Result<Vec<u8>, Refusal<OpenFault>>
+    requires wanted { wanted ≤ 2 ^ 24 + 1 }
+    ensures bytes { IsTrue S.means.tells → length bytes.items ≤ wanted
+        → bytes.items ≡ take (length bytes.items) (S.means.content source.old)
+        → IfOk result (λ v. v.items ≡ take wanted (S.means.content source.old)) }
+    ensures same { IsSameSource S.means source.old source.new }
+    ensures later { S.means.faults source.old ≤ S.means.faults source.new }
+    ensures read { OwesRead result (Rose (S.means.faults source.old) (S.means.faults source.new)) }
+{
+    let at = bytes.len();
+    let mut piece = vec![in alloc; 0u8; wanted.saturating_sub(at)]?;
+    let Ok(count) = read_full(source, at as u64, &mut piece) else {
+        return Err(Refusal::Fault(OpenFault::Read));
+    };
+    bytes.extend_from_slice(&piece[..count])?;
+    Ok(bytes)
+}

@@ -1,0 +1,19 @@
+-- The stops that refusals of the layers below become.
+use Rattle.exr_base.specs.declared.refusal.Refusal.{Refusal}
+use Rattle.exr_base.specs.declared.refusal.Refusal.TheVariants as refusal
+use Rattle.exr_opening.specs.declared.opening.OpenFault.{OpenFault}
+use Rattle.exr_opening.specs.declared.opening.OpenFault.TheVariants as opening
+use Rattle.exr_words.specs.declared.order.WordFault.{WordFault}
+use Rattle.exr_tools.specs.declared.stop.Stop.{Stop}
+use Rattle.exr_tools.specs.declared.stop.Stop.TheVariants.{NoMemory, Words, File, Read}
+use Rattle.exr_tools.specs.declared.stop.FileFault.TheVariants.{Head}
+
+abbrev pub stop_of_words : Refusal WordFault → Stop
+stop_of_words (refusal.Fault f) = Words f.position
+stop_of_words refusal.NoMemory = NoMemory
+
+-- the file is the first of the command
+abbrev pub stop_of_opening : Refusal OpenFault → Stop
+stop_of_opening (refusal.Fault opening.Read) = Read
+stop_of_opening (refusal.Fault (opening.Head f)) = File 0 (Head f)
+stop_of_opening refusal.NoMemory = NoMemory

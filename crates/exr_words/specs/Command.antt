@@ -1,0 +1,20 @@
+-- What a command line can ask for.
+use Rattle.std.specs.Prelude.{ℕ, List, [], ◌∷◌, string_bytes}
+use Rattle.exr_words.specs.declared.order.Order.{Order}
+use Rattle.exr_words.specs.declared.order.Order.TheVariants as order
+
+-- the text of a file's head; the samples of a file, written into another. Files are named by texts; the first list has
+-- the inputs.
+pub data Command : Type 0 where
+  header : List (List ℕ) → Command
+  extract : List (List ℕ) → List ℕ → Command
+
+-- the first of some names
+abbrev pub first_of : List (List ℕ) → List ℕ
+first_of [] = []
+first_of (name ∷ names) = name
+
+-- what an order asks for
+abbrev pub command_in : Order → Command
+command_in (order.Header inputs) = header inputs
+command_in (order.Extract inputs output) = extract inputs (string_bytes output)

@@ -1,0 +1,11 @@
+//! The words of the command line: what they ask for, or the first that is not allowed.
+#![tactic(auto)]
+
+mod order;
+mod words;
+
+pub use order::{Inputs, Order, WordFault};
+pub use words::read_words;
+
+#[cfg(test)]
+mod tests;
