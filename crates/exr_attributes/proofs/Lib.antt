@@ -1,4 +1,5 @@
 pub mod Entries
+pub mod Settled
 pub mod Texts
 pub mod Heads
 pub mod Again

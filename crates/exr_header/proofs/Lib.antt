@@ -1,4 +1,5 @@
 pub mod Lists
+pub mod Settled
 pub mod Parts
 pub mod Sides
 pub mod Limits

@@ -2,6 +2,7 @@ pub mod Channels
 pub mod Fields
 pub mod Head
 pub mod Judging
+pub mod Settled
 pub mod Kind
 pub mod Name
 pub mod Next

@@ -1,10 +1,11 @@
 //! Reading the head of a file.
 
-ghost use Rattle.std.specs.Prelude.{◌≡◌, ◌≤◌, ◌<◌, ◌+◌, ◌^◌, [], All, length, sum_by, IfOk};
+ghost use Rattle.std.specs.Prelude.{◌≡◌, ◌≤◌, ◌<◌, ◌+◌, ◌^◌, ◌⊎◌, ◌++◌, ℕ, List, [], All, length, sum_by, IfOk};
 ghost use Rattle.exr_base.specs.Refusal.{Gives};
 ghost use Rattle.exr_attributes.specs.Reading.{Reads, number_at};
 ghost use Rattle.exr_header.specs.Picture.{chunk_count_of, IsPicture};
-ghost use Rattle.exr_header.specs.Head.{has_bit, is_version, flags_of, word_at, version_at, kind_read, part_read, last_at, some_parts, parts_at, single_at, many_at, head_at, head_of};
+ghost use Rattle.exr_header.specs.Head.{has_bit, is_version, flags_of, word_at, version_at, kind_read, part_read, last_at, some_parts, parts_at, single_at, many_at, head_at, head_of, Head};
+ghost use Rattle.exr_header.specs.Settled.{IsCutShort, IsSettled, IsAllOf};
 
 use crate::checks::{chunk_count, judged};
 use crate::head::FileHead;
@@ -191,16 +192,32 @@ fn head(alloc: Global, from: &mut Cursor) -> Result<FileHead, Refusal<HeaderFaul
     }
 }
 
-/// The head that the bytes begin with, and how many bytes it fills. The slice is the whole input.
-///
-/// The fault is the first from the front; after the closing byte of a header its part is judged.
-///
-/// File Layout, "Components One and Two: Magic Number and Version Field" and "Component Three: Header".
+/// The head at the front of some bytes, and how many bytes it fills.
 #[tactic(auto, unfolding(crate::specs::Head::head_of))]
-pub fn read_head(alloc: Global, bytes: &[u8]) -> Result<(FileHead, usize), Refusal<HeaderFault>>
+fn front_head(alloc: Global, bytes: &[u8]) -> Result<(FileHead, usize), Refusal<HeaderFault>>
     ensures { Gives (λ x. (x.0, x.1)) result (head_of bytes.now) }
 {
     let mut from = Cursor::new(bytes);
     let head = head(alloc, &mut from)?;
     Ok((head, from.at()))
+}
+
+/// The head that the bytes begin with, and how many bytes it fills. The slice is the whole input, or its first bytes:
+/// what is read of these, other than that they end too soon, is what is read of the whole, and so is whatever is read
+/// of more than 2^24 bytes.
+///
+/// The fault is the first from the front; after the closing byte of a header its part is judged.
+///
+/// File Layout, "Components One and Two: Magic Number and Version Field" and "Component Three: Header".
+pub fn read_head(alloc: Global, bytes: &[u8]) -> Result<(FileHead, usize), Refusal<HeaderFault>>
+    // What is read, or which fault it is.
+    ensures exact { Gives (λ x. (x.0, x.1)) result (head_of bytes.now) }
+    // The head lies within the bytes, and within its limit.
+    ensures inside { IfOk result (λ x. (x.1 ≤ length bytes.now) × (x.1 ≤ 2 ^ 24)) }
+    // Unless the bytes end too soon, the same is read whatever follows them.
+    ensures settled { IsCutShort bytes.now ⊎ IsSettled bytes.now }
+    // No head begins with a shorter one.
+    ensures prefix_free { (rest : List ℕ) → (h k : Head) → IsAllOf bytes.now h → IsAllOf (bytes.now ++ rest) k → rest ≡ [] }
+{
+    front_head(alloc, bytes)
 }
