@@ -1,7 +1,9 @@
 -- What opening a file answers.
-use Rattle.std.specs.Prelude.{◌≡◌, ℕ, List, length, Result, Ok, Err}
+use Rattle.std.specs.Prelude.{◌≡◌, ◌+◌, ◌^◌, min, ℕ, Bool, true, false, List, length, take, Option, Some, None, Result, Ok, Err}
 use Rattle.exr_base.specs.declared.refusal.Refusal.{Refusal}
 use Rattle.exr_base.specs.declared.refusal.Refusal.TheVariants.{Fault, NoMemory}
+use Rattle.exr_attributes.specs.declared.fault.HeaderFault.{HeaderFault}
+use Rattle.exr_attributes.specs.declared.fault.HeaderFault.TheVariants.{Truncated}
 use Rattle.exr_header.specs.Head.{Head, head_of}
 use Rattle.exr_opening.specs.declared.opening.OpenFault.{OpenFault}
 use Rattle.exr_opening.specs.declared.opening.OpenFault.TheVariants as fault
@@ -21,7 +23,32 @@ Opens (Err (Fault (fault.Head f))) content = head_of content ≡ Err f
 Opens (Err (Fault fault.Read)) content = Unit {0}
 Opens (Err NoMemory) content = Unit {0}
 
+-- whether a fault is that the bytes end
+abbrev pub is_end : HeaderFault → Bool
+is_end (Truncated at) = true
+is_end _ = false
+
+-- bytes are the first of a content; where no more count, they are all, or one more than a head can have
+pub record IsFront (bytes : List ℕ) (more : Bool) (content : List ℕ) : Type 0 where
+  pub first : bytes ≡ take (length bytes) content
+  pub all : more ≡ false → length bytes ≡ min (length content) (2 ^ 24 + 1)
+
+-- the same as what is found, where not more is wanted
+abbrev pub FindsOrWants : Result (Option (Head × ℕ)) (Refusal OpenFault) → List ℕ → Type 0
+FindsOrWants (Ok None) content = Unit {0}
+FindsOrWants (Ok (Some found)) content = head_of content ≡ Ok found
+FindsOrWants (Err (Fault (fault.Head f))) content = head_of content ≡ Err f
+FindsOrWants (Err (Fault fault.Read)) content = Unit {0}
+FindsOrWants (Err NoMemory) content = Unit {0}
+
 -- a failed read owes a rise
 abbrev pub OwesRead : {T : Type 0} → Result T (Refusal OpenFault) → Type 0 → Type 0
 OwesRead (Err (Fault fault.Read)) rose = rose
 OwesRead other rose = Unit {0}
+
+-- a failed read owes a rise, and no fault of a head comes
+abbrev pub OnlyReads : {T : Type 0} → Result T (Refusal OpenFault) → Type 0 → Type 0
+OnlyReads (Ok x) rose = Unit {0}
+OnlyReads (Err (Fault fault.Read)) rose = rose
+OnlyReads (Err (Fault (fault.Head f))) rose = ⊥
+OnlyReads (Err NoMemory) rose = Unit {0}

@@ -1,9 +1,9 @@
 //! The head of a file, read from a source in pieces that grow twofold, so that little more is read than the head.
 
-ghost use Rattle.std.specs.Prelude.{◌≡◌, ◌+◌, ◌≤◌, ◌^◌, ◌++◌, min, ℕ, IsTrue, IfOk, length, take};
+ghost use Rattle.std.specs.Prelude.{◌≡◌, ◌+◌, ◌≤◌, ◌^◌, ◌≢◌, ◌<◌, min, ℕ, List, false, IsTrue, IfOk, IfSome, None, length, take, drop};
 ghost use Rattle.exr_outside.specs.Source.{IsSameSource};
 ghost use Rattle.exr_outside.specs.Count.{Rose, HasFaultCause};
-ghost use Rattle.exr_opening.specs.Opening.{Opens, Finds, OwesRead};
+ghost use Rattle.exr_opening.specs.Opening.{Opens, Finds, FindsOrWants, IsFront, OnlyReads, OwesRead, is_end};
 
 use exr_attributes::HeaderFault;
 use exr_base::{Failed, Refusal};
@@ -78,15 +78,41 @@ fn head_within<S: Source>(
     let mut wanted = most.min(FIRST);
     'grow: loop {
         bytes = longer(alloc, source, bytes, wanted)?;
-        match read_head(alloc, &bytes) {
-            Err(Refusal::Fault(HeaderFault::Truncated { .. })) if wanted < most => {
-                wanted = (2 * wanted).min(most);
+        if let Some(found) = head_in(alloc, &bytes, wanted < most)? {
+            return Ok(found);
+        }
+        wanted = (2 * wanted).min(most);
+    }
+}
+
+/// What the first bytes of a file say of its head; None where they end too soon and there are more that count.
+fn head_in(
+    alloc: Global,
+    bytes: &[u8],
+    more: bool,
+) -> Result<Option<(FileHead, usize)>, Refusal<OpenFault>>
+    ensures found { (content : List ℕ) → IsFront bytes.now more content → FindsOrWants result content }
+    ensures small { IfOk result (λ o. IfSome o (λ x. x.1 ≤ 2 ^ 24)) }
+    ensures ends { more ≡ false → IfOk result (λ o. o ≢ None) }
+    ensures unread { OwesRead result ⊥ }
+{
+    match read_head(alloc, bytes) {
+        Ok(found) => Ok(Some(found)),
+        Err(Refusal::NoMemory) => Err(Refusal::NoMemory),
+        Err(Refusal::Fault(fault)) => {
+            if more && is_end(fault) {
+                return Ok(None);
             }
-            Ok(found) => return Ok(found),
-            Err(Refusal::Fault(fault)) => return Err(Refusal::Fault(OpenFault::Head(fault))),
-            Err(Refusal::NoMemory) => return Err(Refusal::NoMemory),
+            Err(Refusal::Fault(OpenFault::Head(fault)))
         }
     }
+}
+
+/// Whether a fault is that the bytes end.
+fn is_end(fault: HeaderFault) -> bool
+    ensures { result ≡ is_end fault }
+{
+    matches!(fault, HeaderFault::Truncated { .. })
 }
 
 /// The first `wanted` bytes of a source, of which some were read before.
@@ -97,18 +123,40 @@ fn longer<S: Source>(
     wanted: usize,
 ) -> Result<Vec<u8>, Refusal<OpenFault>>
     requires wanted { wanted ≤ 2 ^ 24 + 1 }
-    ensures bytes { IsTrue S.means.tells → length bytes.items ≤ wanted
+    requires few { length bytes.items ≤ wanted }
+    ensures bytes { IsTrue S.means.tells
         → bytes.items ≡ take (length bytes.items) (S.means.content source.old)
         → IfOk result (λ v. v.items ≡ take wanted (S.means.content source.old)) }
+    ensures short { IfOk result (λ v. length v.items ≤ wanted) }
     ensures same { IsSameSource S.means source.old source.new }
     ensures later { S.means.faults source.old ≤ S.means.faults source.new }
-    ensures read { OwesRead result (Rose (S.means.faults source.old) (S.means.faults source.new)) }
+    ensures read { OnlyReads result (Rose (S.means.faults source.old) (S.means.faults source.new)) }
 {
     let at = bytes.len();
-    let mut piece = vec![in alloc; 0u8; wanted.saturating_sub(at)]?;
-    let Ok(count) = read_full(source, at as u64, &mut piece) else {
+    let piece = piece(alloc, source, at as u64, wanted - at)?;
+    bytes.extend_from_slice(&piece)?;
+    Ok(bytes)
+}
+
+/// At most `size` bytes of a source from a place on, fewer where it ends.
+fn piece<S: Source>(
+    alloc: Global,
+    source: &mut S,
+    at: u64,
+    size: usize,
+) -> Result<Vec<u8>, Refusal<OpenFault>>
+    requires { at + size < 2 ^ 64 }
+    ensures bytes { IsTrue S.means.tells
+        → IfOk result (λ v. v.items ≡ take size (drop at (S.means.content source.old))) }
+    ensures short { IfOk result (λ v. length v.items ≤ size) }
+    ensures same { IsSameSource S.means source.old source.new }
+    ensures later { S.means.faults source.old ≤ S.means.faults source.new }
+    ensures read { OnlyReads result (Rose (S.means.faults source.old) (S.means.faults source.new)) }
+{
+    let mut bytes = vec![in alloc; 0u8; size]?;
+    let Ok(count) = read_full(source, at, &mut bytes) else {
         return Err(Refusal::Fault(OpenFault::Read));
     };
-    bytes.extend_from_slice(&piece[..count])?;
+    bytes.truncate(count);
     Ok(bytes)
 }

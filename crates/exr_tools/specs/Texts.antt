@@ -19,15 +19,15 @@ status_of Read = 4
 status_of Write = 5
 status_of Form = 7
 
--- what is wrong with a file
-abbrev pub fault_text : FileFault → List ℕ
-fault_text (Head fault) = codes "head fault " ++ decimal (number_of fault)
+-- the line of a fault of a file
+abbrev pub file_line_of : ℕ → FileFault → List ℕ
+file_line_of file (Head fault) = codes "exr: file " ++ (decimal file ++ (codes " head fault " ++ (decimal (number_of fault) ++ 10 ∷ [])))
 
 -- the line of a stop
 abbrev pub line_of : Stop → List ℕ
 line_of NoMemory = codes "exr: no memory" ++ 10 ∷ []
 line_of (Words position) = codes "exr: word " ++ decimal position ++ 10 ∷ []
-line_of (File file fault) = codes "exr: file " ++ decimal file ++ codes " " ++ fault_text fault ++ 10 ∷ []
+line_of (File file fault) = file_line_of file fault
 line_of Read = codes "exr: read fault" ++ 10 ∷ []
 line_of Write = codes "exr: write fault" ++ 10 ∷ []
 line_of Form = codes "exr: form" ++ 10 ∷ []

@@ -22,11 +22,11 @@ use std::alloc::Global;
 fn bytes_with<S: Source>(
     alloc: Global,
     source: &mut S,
-    length: u64,
+    total: u64,
     lines: Lines,
 ) -> Result<Vec<u8>, Stop>
     requires small { AreSmall lines }
-    requires told { IsTrue S.means.tells → length ≡ length (S.means.content source.old) }
+    requires told { IsTrue S.means.tells → total ≡ length (S.means.content source.old) }
     ensures bytes { IsTrue S.means.tells → IfOk result (λ v. v.items ≡ S.means.content source.old) }
     ensures chunks { IfOk result (λ v. HasPlainChunks v.items lines) }
     ensures same { IsSameSource S.means source.old source.new }
@@ -35,10 +35,10 @@ fn bytes_with<S: Source>(
         (λ due. IsForm due × (IsTrue S.means.tells → HasPlainChunks (S.means.content source.old) lines → ⊥))
         (Rose (S.means.faults source.old) (S.means.faults source.new)) ⊥) }
 {
-    if length != lines.place(lines.count) as u64 {
+    if total != lines.place(lines.count) as u64 {
         return Err(Stop::Form);
     }
-    let mut bytes = vec![in alloc; 0u8; length as usize]?;
+    let mut bytes = vec![in alloc; 0u8; total as usize]?;
     let Ok(count) = read_full(source, 0, &mut bytes) else {
         return Err(Stop::Read);
     };

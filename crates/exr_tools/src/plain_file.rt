@@ -27,7 +27,7 @@ impl Lines {
     /// What this head says.
     pub fn of(head: PlainHead<'_>) -> Lines
         requires { IsWithinLimits (plain_of head) }
-        ensures lines { result ≡ lines_of (plain_of head) }
+        ensures lines { result ≡ lines_of (plain_of head.entry) }
         ensures small { AreSmall result }
     {
         Lines {

@@ -1,6 +1,7 @@
 //! The plainest head: what is read of it so far.
 
 ghost use Rattle.std.specs.Prelude.{◌≡◌, ◌*◌, ◌≤◌, ◌≤ℤ◌, ◌^◌, IfNone, IfSome, length};
+ghost use Rattle.std.specs.List.{list_all};
 ghost use Rattle.exr_base.specs.Sampling.{span_of};
 ghost use Rattle.exr_base.specs.Shape.{width_of, height_of};
 ghost use Rattle.exr_header.specs.declared.header.Header.{Header};
@@ -72,11 +73,16 @@ fn is_plain_part(part: &Header) -> bool
     requires { IsPicture part.now }
     ensures { result ≡ is_plain_part part.now }
 {
-    if !is_plain_layout(part) {
-        return false;
-    }
-    let channels = part.channels();
-    channels.iter().all(|c| is_plain_channel(c)) && sample_bytes(channels, part.window()) <= MOST_BYTES
+    is_plain_layout(part)
+        && are_plain_channels(part.channels())
+        && sample_bytes(part.channels(), part.window()) <= MOST_BYTES
+}
+
+/// Whether all channels are HALF with a sample at each pixel.
+fn are_plain_channels(channels: &[Channel]) -> bool
+    ensures { result ≡ list_all is_plain_channel channels.now }
+{
+    channels.iter().all(|c| is_plain_channel(c))
 }
 
 /// Whether a part has scan lines, raw data and increasing lines.
@@ -104,7 +110,20 @@ fn sample_bytes(channels: &[Channel], window: Box2i) -> u64
     requires height { height_of window ≤ 2 ^ 20 }
     ensures { result ≡ size_of channels.now window }
 {
-    2 * channels.len() as u64 * span(window.x0, window.x1) * span(window.y0, window.y1)
+    let columns = span(window.x0, window.x1);
+    let rows = span(window.y0, window.y1);
+    product(channels.len() as u64, columns, rows)
+}
+
+/// The bytes of samples of two bytes.
+fn product(channels: u64, columns: u64, rows: u64) -> u64
+    requires channels { channels ≤ 1024 }
+    requires columns { columns ≤ 2 ^ 20 }
+    requires rows { rows ≤ 2 ^ 20 }
+    ensures { result ≡ 2 * channels * columns * rows }
+{
+    let line = 2 * channels * columns;
+    line * rows
 }
 
 /// How many places there are from one to another, both included.

@@ -14,7 +14,7 @@ use std::alloc::Global;
 pub fn planes(alloc: Global, bytes: &[u8], head: PlainHead<'_>) -> Result<Vec<u8>, NoMemory>
     requires limits { IsWithinLimits (plain_of head) }
     requires chunks { HasPlainChunks bytes.now (lines_of (plain_of head)) }
-    ensures { IfOk result (λ buffer. IsBuffer bytes.now (plain_of head) buffer.items) }
+    ensures { IfOk result (λ buffer. IsBuffer bytes.now (plain_of head.entry) buffer.items) }
 {
     let mut buffer = vec![in alloc; 0u8; buffer_size(head)]?;
     fill(&mut buffer, bytes, head);
@@ -24,7 +24,7 @@ pub fn planes(alloc: Global, bytes: &[u8], head: PlainHead<'_>) -> Result<Vec<u8
 /// How many bytes the planes fill.
 fn buffer_size(head: PlainHead<'_>) -> usize
     requires { IsWithinLimits (plain_of head) }
-    ensures { result ≡ size_of head.channels.now head.window }
+    ensures { result ≡ size_of head.entry.channels.now head.entry.window }
 {
     2 * head.channels.len() * head.width() * head.height()
 }
@@ -34,7 +34,7 @@ fn fill(buffer: &mut [u8], bytes: &[u8], head: PlainHead<'_>)
     requires limits { IsWithinLimits (plain_of head) }
     requires chunks { HasPlainChunks bytes.now (lines_of (plain_of head)) }
     requires size { length buffer.old ≡ size_of head.channels.now head.window }
-    ensures { IsBuffer bytes.now (plain_of head) buffer.new }
+    ensures { IsBuffer bytes.now (plain_of head.entry) buffer.new }
 {
     let lines = Lines::of(head);
     put_lines(buffer, bytes, lines, head.channels.len(), 2 * head.width());

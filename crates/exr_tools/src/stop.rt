@@ -1,9 +1,10 @@
 //! Why a command stopped, with its status and its line.
 
-ghost use Rattle.std.specs.Prelude.{◌≡◌, IfOk};
+ghost use Rattle.std.specs.Prelude.{◌≡◌, IfOk, string_bytes};
 ghost use Rattle.exr_tools.specs.declared.stop.Stop.TheVariants as stop;
+ghost use Rattle.exr_tools.specs.declared.stop.FileFault.TheVariants as file;
 ghost use Rattle.exr_tools.specs.Stops.{stop_of_words, stop_of_opening};
-ghost use Rattle.exr_tools.specs.Texts.{status_of, line_of};
+ghost use Rattle.exr_tools.specs.Texts.{status_of, file_line_of, line_of};
 
 use exr_attributes::HeaderFault;
 use exr_base::{NoMemory, Refusal};
@@ -66,16 +67,29 @@ pub fn stop_line(alloc: Global, stop: &Stop) -> Result<Vec<u8>, NoMemory>
     let line = match stop {
         Stop::NoMemory => format!(in alloc; "exr: no memory\n")?,
         Stop::Words { position } => format!(in alloc; "exr: word {position}\n")?,
-        Stop::File { file, fault } => {
-            let FileFault::Head(head) = fault;
-            let number = head.number();
-            format!(in alloc; "exr: file {file} head fault {number}\n")?
-        }
+        Stop::File { file, fault } => file_line(alloc, *file, *fault)?,
         Stop::Read => format!(in alloc; "exr: read fault\n")?,
         Stop::Write => format!(in alloc; "exr: write fault\n")?,
         Stop::Form => format!(in alloc; "exr: form\n")?,
     };
     Ok(line.into_bytes())
+}
+
+/// The fault of a file's head.
+fn head_fault(fault: FileFault) -> HeaderFault
+    ensures { fault ≡ file.Head result }
+{
+    match fault {
+        FileFault::Head(fault) => fault,
+    }
+}
+
+/// The line of a fault of a file.
+fn file_line(alloc: Global, file: u32, fault: FileFault) -> Result<String, NoMemory>
+    ensures { IfOk result (λ line. string_bytes line ≡ file_line_of file fault) }
+{
+    let number = head_fault(fault).number();
+    Ok(format!(in alloc; "exr: file {file} head fault {number}\n")?)
 }
 
 impl From<NoMemory> for Stop {

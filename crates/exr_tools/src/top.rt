@@ -4,7 +4,7 @@ ghost use Rattle.std.specs.Prelude.{◌≡◌, ◌≢◌, ◌⊎◌, ◌<◌, �
 ghost use Rattle.exr_outside.specs.Count.{Rose};
 ghost use Rattle.exr_words.specs.Command.{Command};
 ghost use Rattle.exr_words.specs.Words.{texts_of, command_of, fault_at};
-ghost use Rattle.exr_tools.specs.declared.stop.Stop.{Stop};
+ghost use Rattle.exr_tools.specs.declared.stop.Stop.{Stop as AnyStop};
 ghost use Rattle.exr_tools.specs.Run.{Obeys, IsDue, IsSound, HasReason, OwesRise, StopsOr, IsBeforeWriting, ByCommand, Opens, Creates, Keeps};
 
 use crate::extract::extract;
@@ -35,9 +35,9 @@ pub fn run<R: Threads + Sync, W: World, F: Files<W>, O: Printer, G: Gate>(
         (IsTrue F.means.tells) (IsTrue F.Out.means.tells) (IsTrue O.means.tells) (texts_of words.now)
         (F.means.kept files.old) (F.means.kept files.new) (O.means.holds out.old) (O.means.holds out.new)) }
 
-    // A faulty list of words is refused at its position, and each other stop has its reason.
+    // A faulty list of words is refused at its position, want of memory apart, and each other stop has its reason.
     ensures words { (position : ℕ) → command_of (texts_of words.now) ≡ fault_at position
-        → result ≡ Err (Stop.Words position) }
+        → StopsOr result (Stop.Words position) ⊥ ⊥ }
     ensures reason { IfErr result (λ stop. HasReason stop
         (λ position. command_of (texts_of words.now) ≡ fault_at position)
         (λ due. IsTrue F.In.means.tells → ByCommand (texts_of words.now) (λ command. IsDue command W.bytes_of due) ⊥)
@@ -47,7 +47,7 @@ pub fn run<R: Threads + Sync, W: World, F: Files<W>, O: Printer, G: Gate>(
 
     // Where no count rose: a stop that the input calls for is the answer, and where it calls for none the answer is Ok;
     // want of memory apart.
-    ensures due { IsTrue F.In.means.tells → (command : Command) (due : Stop)
+    ensures due { IsTrue F.In.means.tells → (command : Command) (due : AnyStop)
         → command_of (texts_of words.now) ≡ Ok command → IsDue command W.bytes_of due → StopsOr result due
         (Rose (F.means.read_faults files.old) (F.means.read_faults files.new))
         (Rose (F.means.write_faults files.old) (F.means.write_faults files.new)

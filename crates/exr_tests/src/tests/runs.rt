@@ -70,7 +70,7 @@ fn ran<R: Threads + Sync, W: World>(
     let mut out = MemSink::new(
         alloc,
         "",
-        1 << 8,
+        1 << 12,
         print_fails.to_vec(alloc)?,
         Vec::new(alloc),
     )?;

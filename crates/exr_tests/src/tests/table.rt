@@ -2,18 +2,39 @@
 
 use super::files::*;
 use super::runs::{NONE, Named, outcome_of};
-use exr_tools::{Stop, stop_line};
+use exr_attributes::HeaderFault;
+use exr_tools::{FileFault, Stop, stop_line};
+use std::alloc::Global;
 use std::process::Abort;
 use std::test::Fail;
 use std::thread::Threads;
 
 const EXTRACT: &[&str] = &["extract", "in=a", "out=b"];
 
+/// The fault of a head.
+fn head(fault: HeaderFault) -> Stop {
+    Stop::File {
+        file: 0,
+        fault: FileFault::Head(fault),
+    }
+}
+
+/// A file with another byte at a place.
+fn changed(alloc: Global, file: &[u8], place: usize, byte: u8) -> Result<Vec<u8>, Fail> {
+    let mut changed = file.to_vec(alloc)?;
+    *changed.get_mut(place).ok_or("a place")? = byte;
+    Ok(changed)
+}
+
 #[test]
 fn plain_files_and_others(rt: HostRuntime) -> Result<(), Fail> {
-    let longer = [ONE_SAMPLE, &[0]].concat(rt.alloc())?;
+    let alloc = rt.alloc();
+    let longer = [ONE_SAMPLE, &[0]].concat(alloc)?;
+    let long_names = changed(alloc, ONE_SAMPLE, 5, 4)?;
+    let unknown_bit = changed(alloc, ONE_SAMPLE, 5, 1)?;
+    let other_order = changed(alloc, ONE_SAMPLE, 177, 1)?;
     // the file, the stop, what is written, what is printed
-    let rows: [(&[u8], Option<Stop>, Option<&[u8]>, &str); 7] = [
+    let rows: [(&[u8], Option<Stop>, Option<&[u8]>, &str); 11] = [
         (ONE_SAMPLE, None, Some(ONE_SAMPLE_RAW), "extract bytes 2\n"),
         (
             THREE_CHANNELS,
@@ -27,19 +48,89 @@ fn plain_files_and_others(rt: HostRuntime) -> Result<(), Fail> {
             Some(TWENTY_LINES_RAW),
             "extract bytes 40\n",
         ),
+        (&long_names, None, Some(ONE_SAMPLE_RAW), "extract bytes 2\n"),
         (MISPLACED_BLOCK, Some(Stop::Form), None, ""),
+        (&other_order, Some(Stop::Form), None, ""),
         (&ONE_SAMPLE[..294], Some(Stop::Form), None, ""),
         (&longer, Some(Stop::Form), None, ""),
-        (&[], Some(Stop::Form), None, ""),
+        (
+            &unknown_bit,
+            Some(head(HeaderFault::BadVersion { word: 0x102 })),
+            None,
+            "",
+        ),
+        (
+            &ONE_SAMPLE[..276],
+            Some(head(HeaderFault::Truncated { at: 276 })),
+            None,
+            "",
+        ),
+        (
+            &[],
+            Some(head(HeaderFault::Truncated { at: 0 })),
+            None,
+            "",
+        ),
     ];
     for (file, stop, written, printed) in rows {
         for words in [EXTRACT, &["extract", "out=b", "in=a"]] {
-            let got = outcome_of(&rt, rt.alloc(), words, file, NONE)?;
+            let got = outcome_of(&rt, alloc, words, file, NONE)?;
             assert_eq!(rt; got.stop, stop);
             assert_eq!(rt; got.kept.as_ref().map(|v| v.as_slice()), written);
             assert_eq!(rt; got.printed.as_slice(), printed.as_bytes());
             assert_eq!(rt; (got.read_faults, got.write_faults), (0, 0));
         }
+    }
+    Ok(())
+}
+
+/// The text of the head of the 295-byte file.
+const ONE_SAMPLE_TEXT: &str = "\
+    exr single parts 1\n\
+    part 0 scan name - method 0 order 0 window 0 0 0 0 chunks 1\n\
+    channel Y kind 1 linear 0 sampling 1 1\n\
+    attribute channels chlist 19\n\
+    attribute compression compression 1\n\
+    attribute dataWindow box2i 16\n\
+    attribute displayWindow box2i 16\n\
+    attribute lineOrder lineOrder 1\n\
+    attribute pixelAspectRatio float 4\n\
+    attribute screenWindowCenter v2f 8\n\
+    attribute screenWindowWidth float 4\n";
+
+// The text of a head is printed whatever stands behind it, and no file is made.
+#[test]
+fn heads_and_their_faults(rt: HostRuntime) -> Result<(), Fail> {
+    let alloc = rt.alloc();
+    let rows: [(&[u8], Option<Stop>); 5] = [
+        (ONE_SAMPLE, None),
+        (&ONE_SAMPLE[..277], None),
+        (
+            &ONE_SAMPLE[..276],
+            Some(head(HeaderFault::Truncated { at: 276 })),
+        ),
+        (
+            b"not an OpenEXR file",
+            Some(head(HeaderFault::BadMagic)),
+        ),
+        (&[], Some(head(HeaderFault::Truncated { at: 0 }))),
+    ];
+    for (file, stop) in rows {
+        let got = outcome_of(&rt, alloc, &["header", "in=a"], file, NONE)?;
+        let text = if stop.is_none() { ONE_SAMPLE_TEXT } else { "" };
+        assert_eq!(rt; got.stop, stop);
+        assert_eq!(rt; got.printed.as_slice(), text.as_bytes());
+        assert!(rt; got.kept.is_none());
+    }
+    for (named, stop) in [
+        ([&[0u64] as &[u64], &[], &[], &[], &[], &[]], Stop::Read),
+        ([&[], &[], &[0], &[], &[], &[]], Stop::Read),
+        ([&[], &[], &[], &[0], &[], &[]], Stop::Read),
+        ([&[], &[], &[], &[], &[], &[0]], Stop::Write),
+    ] {
+        let got = outcome_of(&rt, alloc, &["header", "in=a"], ONE_SAMPLE, named)?;
+        assert_eq!(rt; got.stop, Some(stop));
+        assert_eq!(rt; got.printed.len(), 0);
     }
     Ok(())
 }
@@ -115,6 +206,11 @@ fn lines_of_stops(rt: HostRuntime) -> Result<(), Fail> {
     let rows = [
         (Stop::NoMemory, 1, "exr: no memory\n"),
         (Stop::Words { position: 2 }, 2, "exr: word 2\n"),
+        (
+            head(HeaderFault::BadMagic),
+            3,
+            "exr: file 0 head fault 5\n",
+        ),
         (Stop::Read, 4, "exr: read fault\n"),
         (Stop::Write, 5, "exr: write fault\n"),
         (Stop::Form, 7, "exr: form\n"),
@@ -126,32 +222,44 @@ fn lines_of_stops(rt: HostRuntime) -> Result<(), Fail> {
     Ok(())
 }
 
-// A file with some bytes changed or missing is either extracted or refused for its form, and then nothing is created.
+// A file with some bytes changed or missing is either extracted, or refused for its head or its form, and then nothing
+// is created.
 #[test]
 fn each_prefix_and_each_changed_byte(rt: HostRuntime) -> Result<(), Fail> {
     let alloc = rt.alloc();
     for end in 0..ONE_SAMPLE.len() {
-        is_extracted_or_refused(&rt, &ONE_SAMPLE[..end])?;
+        let stop = is_extracted_or_refused(&rt, &ONE_SAMPLE[..end])?;
+        let at = end as u64;
+        let expected = if end < 277 {
+            head(HeaderFault::Truncated { at })
+        } else {
+            Stop::Form
+        };
+        assert_eq!(rt; stop, Some(expected));
     }
     let mut file = ONE_SAMPLE.to_vec(alloc)?;
     for place in 0..file.len() {
         let was = file[place];
         for byte in 0..=255 {
             file[place] = byte;
-            is_extracted_or_refused(&rt, &file)?;
+            let _ = is_extracted_or_refused(&rt, &file)?;
         }
         file[place] = was;
     }
     Ok(())
 }
 
+/// What a file is refused for; nothing is created or printed then.
 fn is_extracted_or_refused<R: Abort + AllocGlobal + Threads + Sync>(
     rt: &R,
     file: &[u8],
-) -> Result<(), Fail> {
+) -> Result<Option<Stop>, Fail> {
     let got = outcome_of(rt, rt.alloc(), EXTRACT, file, NONE)?;
-    assert!(rt; got.stop.is_none() || got.stop == Some(Stop::Form));
+    match got.stop {
+        None | Some(Stop::Form) => {}
+        Some(stop) => assert_eq!(rt; stop.status(), 3),
+    }
     assert_eq!(rt; got.kept.is_some(), got.stop.is_none());
     assert_eq!(rt; got.printed.is_empty(), got.stop.is_some());
-    Ok(())
+    Ok(got.stop)
 }

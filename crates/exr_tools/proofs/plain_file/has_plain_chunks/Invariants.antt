@@ -1,6 +1,6 @@
 use Rattle.std.proofs.Common.{ℕ, ◌<◌}
 use Rattle.exr_tools.specs.PlainFile.{IsPlainChunk}
-use Rattle.exr_tools.proofs.plain_file.is_plain_file.Given as goal
+use Rattle.exr_tools.proofs.plain_file.has_plain_chunks.Given as goal
 
 -- each chunk so far is in order
 abbrev pub invariant-loop-i : goal.invariant-loop-i
