@@ -1,17 +1,14 @@
 -- What is spelled so is read again, whatever follows.
-use Rattle.std.proofs.Common.{◌≡◌, ℕ, zero, suc, ◌+◌, ◌-◌, ◌^◌, ◌<◌, ◌≤◌, Bool, true, false, cond, ◌||◌, eqb, leb, ltb, List, [], ◌∷◌, ◌++◌, length, take, drop, Option, Some, None, Result, Ok, Err, refl, sym, ap, subst, ◌∙◌, add_assoc, append_assoc, arith}
-use Rattle.std.specs.List.{list_any, flat_map}
-use Rattle.std.specs.Str.{bytes_eq}
-use Rattle.std.specs.Int.{w32, to_le_bytes, from_le_bytes}
-use Rattle.std.proofs.lemmas.Bool.{le-ltb, lt-ltb, le-leb}
+use Rattle.std.proofs.Common.{◌≡◌, ℕ, zero, suc, ◌+◌, ◌^◌, ◌<◌, ◌≤◌, true, false, eqb, leb, ltb, List, [], ◌∷◌, ◌++◌, length, drop, Some, None, Ok, refl, sym, ap, subst, ◌∙◌, add_assoc, append_assoc, arith}
+use Rattle.std.specs.List.{list_any}
+use Rattle.std.specs.Int.{w32, to_le_bytes}
+use Rattle.std.proofs.lemmas.Bool.{lt-ltb, le-leb}
 use Rattle.std.proofs.lemmas.Bool.Decides.{nat_tests}
 use Rattle.std.proofs.lemmas.List.{take_at, drop_at, drop-drop, length-append, append-nil}
 use Rattle.std.proofs.lemmas.List.Concat.{flat_map-cons}
 use Rattle.std.proofs.lemmas.Nat.{from_le_bytes-to_le_bytes_4}
 use Rattle.exr_base.specs.Cursor.{Position, left_of}
-use Rattle.exr_base.specs.Name.{is_name, IsName}
-use Rattle.exr_base.specs.Refusal.{◌>>=◌}
-use Rattle.exr_attributes.specs.declared.fault.HeaderFault.{HeaderFault}
+use Rattle.exr_base.specs.Name.{IsName}
 use Rattle.exr_attributes.specs.declared.attribute.Attribute.{Attribute}
 use Rattle.exr_attributes.specs.declared.attribute.Entry.{Entry}
 use Rattle.exr_attributes.specs.Entry.{is_named, has_name, AreEntries}

@@ -1,11 +1,12 @@
 -- The first entry of a name: what is looked up, put and taken away there.
-use Rattle.std.proofs.Common.{◌≡◌, ◌≢◌, ℕ, zero, suc, ◌+◌, ◌<◌, Bool, true, false, cond, ◌||◌, List, [], ◌∷◌, ◌++◌, length, get_or, set, take, drop, Option, Some, None, refl, sym, ap, subst, ◌∙◌, arith, eqb}
-use Rattle.std.specs.List.{remove, list_any}
+use Rattle.std.proofs.Common.{◌≡◌, ℕ, zero, suc, ◌<◌, ◌^◌, Bool, true, false, cond, ◌||◌, List, [], ◌∷◌, ◌++◌, length, get_or, set, take, Some, None, refl, sym, ap, subst, ◌∙◌, arith, eqb}
+use Rattle.std.specs.List.{remove}
 use Rattle.std.proofs.lemmas.Bool.Decides.{nat_tests}
 use Rattle.std.specs.Str.{bytes_eq}
 use Rattle.exr_base.specs.Name.{IsName}
 use Rattle.exr_attributes.specs.declared.attribute.Attribute.{Attribute}
 use Rattle.exr_attributes.specs.declared.attribute.Entry.{Entry}
+use Rattle.exr_attributes.specs.Spelling.{HasSize, AreSized, AreAttributes}
 use Rattle.exr_attributes.specs.Entry.{is_named, has_name, attribute_of, with_attribute, without, AreEntries, IsFirst}
 
 or_false : (a : Bool) → (a || false) ≡ (false || a)
@@ -132,6 +133,30 @@ AreEntries-without name (e ∷ es) h = without_at name e es (is_named name e) h 
   without_at name e es true h rest = h.3
   without_at name e es false h rest = (h.0, h.1, has_name-without_false e.name name es h.2, rest)
 
+-- ---- sizes stay ints
+
+AreSized-push : (es : List Entry) (e : Entry) → AreSized es → HasSize e → AreSized (es ++ e ∷ [])
+AreSized-push [] e h size = (size, tt)
+AreSized-push (x ∷ xs) e h size = (h.0, AreSized-push xs e h.1 size)
+
+AreSized-with : (name : List ℕ) (a : Attribute) (es : List Entry) → AreSized es → length a.value < 2 ^ 31 → AreSized (with_attribute name a es)
+AreSized-with name a [] h size = (size, tt)
+AreSized-with name a (e ∷ es) h size = sized_with_at name a e es (is_named name e) h size (AreSized-with name a es h.1 size) where
+  sized_with_at : (name : List ℕ) (a : Attribute) (e : Entry) (es : List Entry) (b : Bool) → AreSized (e ∷ es) → length a.value < 2 ^ 31 → AreSized (with_attribute name a es) → AreSized (cond b (record { name = e.name; attribute = a } ∷ es) (e ∷ with_attribute name a es))
+  sized_with_at name a e es true h size rest = (size, h.1)
+  sized_with_at name a e es false h size rest = (h.0, rest)
+
+AreSized-without : (name : List ℕ) (es : List Entry) → AreSized es → AreSized (without name es)
+AreSized-without name [] h = tt
+AreSized-without name (e ∷ es) h = sized_without_at name e es (is_named name e) h (AreSized-without name es h.1) where
+  sized_without_at : (name : List ℕ) (e : Entry) (es : List Entry) (b : Bool) → AreSized (e ∷ es) → AreSized (without name es) → AreSized (cond b es (e ∷ without name es))
+  sized_without_at name e es true h rest = h.1
+  sized_without_at name e es false h rest = (h.0, rest)
+
+pub AreAttributes-push : (es : List Entry) (e : Entry) → AreAttributes es → IsName e.name → IsName e.attribute.kind → HasSize e → has_name e.name es ≡ false → AreAttributes (es ++ e ∷ [])
+AreAttributes-push es e h name kind size new =
+    record { lawful = AreEntries-push es e h.lawful name kind new; sizes = AreSized-push es e h.sizes size }
+
 -- ---- the same, as calls say it: of the list behind a slice, seen as the map
 
 pub found : (name : List ℕ) (slice items es : List Entry) (i : ℕ) (x : Entry) → slice ≡ items → items ≡ es → IsFirst name slice i → x ≡ get_or items i x → Some x.attribute ≡ attribute_of name es
@@ -147,26 +172,28 @@ put_is name a slice items es i x s v f at =
     let g : IsFirst name items i = subst (λ (l : List Entry). IsFirst name l i) s f in
     ap (λ (e : Entry). set items i (record { name = e.name; attribute = a })) at ∙ sym (put_at_first name a items i x g) ∙ ap (with_attribute name a) v
 
-pub put_lawful : (name : List ℕ) (a : Attribute) (slice items : List Entry) (i : ℕ) (x : Entry) → slice ≡ items → IsFirst name slice i → x ≡ get_or items i x → AreEntries items → IsName name → IsName a.kind → AreEntries (set items i (record { name = x.name; attribute = a }))
-put_lawful name a slice items i x s f at lawful named kind =
-    subst AreEntries (sym (put_is name a slice items items i x s refl f at)) (AreEntries-with name a items lawful named kind)
+pub put_lawful : (name : List ℕ) (a : Attribute) (slice items : List Entry) (i : ℕ) (x : Entry) → slice ≡ items → IsFirst name slice i → x ≡ get_or items i x → AreAttributes items → IsName name → IsName a.kind → length a.value < 2 ^ 31 → AreAttributes (set items i (record { name = x.name; attribute = a }))
+put_lawful name a slice items i x s f at h named kind size =
+    let all : AreAttributes (with_attribute name a items) = record { lawful = AreEntries-with name a items h.lawful named kind; sizes = AreSized-with name a items h.sizes size } in
+    subst AreAttributes (sym (put_is name a slice items items i x s refl f at)) all
 
 pub end_is : (name : List ℕ) (a : Attribute) (slice items es new : List Entry) → slice ≡ items → items ≡ es → has_name name slice ≡ false → new ≡ items ++ record { name = name; attribute = a } ∷ [] → new ≡ with_attribute name a es
 end_is name a slice items es new s v h n =
     n ∙ sym (put_at_end name a items (ap (has_name name) (sym s) ∙ h)) ∙ ap (with_attribute name a) v
 
-pub end_lawful : (name : List ℕ) (a : Attribute) (slice items new : List Entry) → slice ≡ items → has_name name slice ≡ false → AreEntries items → IsName name → IsName a.kind → new ≡ items ++ record { name = name; attribute = a } ∷ [] → AreEntries new
-end_lawful name a slice items new s h lawful named kind n =
-    subst AreEntries (sym n) (AreEntries-push items (record { name = name; attribute = a }) lawful named kind (ap (has_name name) (sym s) ∙ h))
+pub end_lawful : (name : List ℕ) (a : Attribute) (slice items new : List Entry) → slice ≡ items → has_name name slice ≡ false → AreAttributes items → IsName name → IsName a.kind → length a.value < 2 ^ 31 → new ≡ items ++ record { name = name; attribute = a } ∷ [] → AreAttributes new
+end_lawful name a slice items new s h lawful named kind size n =
+    subst AreAttributes (sym n) (AreAttributes-push items (record { name = name; attribute = a }) lawful named kind size (ap (has_name name) (sym s) ∙ h))
 
 pub rest_is : (name : List ℕ) (slice items es new : List Entry) (i : ℕ) → slice ≡ items → items ≡ es → IsFirst name slice i → new ≡ remove items i → new ≡ without name es
 rest_is name slice items es new i s v f n =
     let g : IsFirst name items i = subst (λ (l : List Entry). IsFirst name l i) s f in
     n ∙ sym (taken_at_first name items i g) ∙ ap (without name) v
 
-pub rest_lawful : (name : List ℕ) (slice items new : List Entry) (i : ℕ) → slice ≡ items → IsFirst name slice i → AreEntries items → new ≡ remove items i → AreEntries new
-rest_lawful name slice items new i s f lawful n =
-    subst AreEntries (sym (rest_is name slice items items new i s refl f n)) (AreEntries-without name items lawful)
+pub rest_lawful : (name : List ℕ) (slice items new : List Entry) (i : ℕ) → slice ≡ items → IsFirst name slice i → AreAttributes items → new ≡ remove items i → AreAttributes new
+rest_lawful name slice items new i s f h n =
+    let all : AreAttributes (without name items) = record { lawful = AreEntries-without name items h.lawful; sizes = AreSized-without name items h.sizes } in
+    subst AreAttributes (sym (rest_is name slice items items new i s refl f n)) all
 
 pub same_without : (name : List ℕ) (slice items es : List Entry) → slice ≡ items → items ≡ es → has_name name slice ≡ false → es ≡ without name es
 same_without name slice items es s v h = sym (taken_nowhere name es (ap (has_name name) (sym (s ∙ v)) ∙ h))

@@ -1,5 +1,5 @@
 -- Entries read one after the other, as a loop does, and the ordered set of their names.
-use Rattle.std.proofs.Common.{◌≡◌, ℕ, zero, suc, ◌+◌, ◌-◌, ◌^◌, ◌<◌, ◌≤◌, Bool, true, false, cond, ◌||◌, List, [], ◌∷◌, ◌++◌, Option, Some, None, Result, Ok, Err, refl, sym, ap, ◌∙◌, arith}
+use Rattle.std.proofs.Common.{◌≡◌, ℕ, suc, ◌+◌, ◌-◌, ◌^◌, ◌<◌, ◌≤◌, Bool, true, false, cond, ◌||◌, List, [], ◌∷◌, ◌++◌, Option, Some, None, Result, Ok, Err, refl, sym, ap, ◌∙◌, arith}
 use Rattle.std.specs.Prelude.{not}
 use Rattle.std.specs.BTreeSet.{BTreeSet, contains, IsEmpty}
 use Rattle.std.specs.Str.{bytes_eq}
@@ -8,13 +8,13 @@ use Rattle.std.specs.Ordering.{nat_cmp, is_eq}
 use Rattle.std.proofs.lemmas.Cmp.{same_from_slice_cmp}
 use Rattle.std.proofs.lemmas.Bool.Decides.{nat_tests}
 use Rattle.exr_base.specs.Cursor.{Position}
-use Rattle.exr_base.specs.Refusal.{◌>>=◌, Refuses}
+use Rattle.exr_base.specs.Refusal.{Refuses}
 use Rattle.exr_base.specs.declared.refusal.Refusal.{Refusal}
 use Rattle.exr_base.specs.declared.refusal.Refusal.TheVariants as refusal
 use Rattle.exr_attributes.specs.declared.fault.HeaderFault.{HeaderFault}
 use Rattle.exr_attributes.specs.declared.fault.HeaderFault.TheVariants.{Twice}
 use Rattle.exr_attributes.specs.declared.attribute.Entry.{Entry}
-use Rattle.exr_attributes.specs.Entry.{is_named, has_name, AreEntries}
+use Rattle.exr_attributes.specs.Entry.{is_named, has_name}
 use Rattle.exr_attributes.specs.Reading.{next_at, entries_at, header_at, past_of}
 use Rattle.exr_attributes.proofs.Entries.{bytes_eq-comm, has_name-push}
 

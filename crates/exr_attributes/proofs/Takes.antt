@@ -1,21 +1,16 @@
 -- What is read is spelled so.
-use Rattle.std.proofs.Common.{◌≡◌, ℕ, zero, suc, ◌+◌, ◌-◌, ◌^◌, ◌<◌, ◌≤◌, Bool, true, false, cond, ◌||◌, eqb, leb, ltb, List, [], ◌∷◌, ◌++◌, length, get_or, take, drop, Option, Some, None, Result, Ok, Err, refl, sym, ap, subst, inl, inr, ◌∙◌, append_assoc, arith}
-use Rattle.std.specs.List.{list_any, flat_map}
-use Rattle.std.specs.Str.{bytes_eq}
+use Rattle.std.proofs.Common.{◌≡◌, ℕ, zero, suc, ◌+◌, ◌^◌, ◌<◌, ◌≤◌, Bool, true, false, cond, eqb, leb, ltb, List, [], ◌∷◌, ◌++◌, length, get_or, take, Option, Some, None, Result, Ok, Err, refl, sym, ap, subst, inl, inr, ◌∙◌, append_assoc, arith}
 use Rattle.std.specs.Int.{w32, to_le_bytes, from_le_bytes}
 use Rattle.std.proofs.lemmas.Bool.{cases_lt, ltb-true, leb-true, eqb-true}
-use Rattle.std.proofs.lemmas.Bool.Decides.{nat_tests}
-use Rattle.std.proofs.lemmas.List.{take-append-drop, drop-drop, length-append, length-take, length-take-le, append-nil, nil_from_length, get_or-drop, get_or_append_left, get_or_past}
-use Rattle.std.proofs.lemmas.List.Concat.{flat_map-cons}
+use Rattle.std.proofs.lemmas.List.{take-append-drop, drop-drop, length-append, length-take-le, append-nil, nil_from_length, get_or-drop, get_or_append_left, get_or_past}
 use Rattle.std.proofs.lemmas.Nat.{le_bytes_4}
 use Rattle.exr_base.specs.Cursor.{Position, left_of}
 use Rattle.exr_base.specs.Refusal.{◌>>=◌}
 use Rattle.exr_attributes.specs.declared.fault.HeaderFault.{HeaderFault}
-use Rattle.exr_attributes.specs.declared.attribute.Attribute.{Attribute}
 use Rattle.exr_attributes.specs.declared.attribute.Entry.{Entry}
 use Rattle.exr_base.specs.Name.{IsName}
 use Rattle.exr_attributes.specs.Entry.{has_name, AreEntries}
-use Rattle.exr_attributes.specs.Spelling.{ended, attribute_spelling, entry_spelling, entries_spelling, header_spelling, HasSize, AreSized, IsBytes}
+use Rattle.exr_attributes.specs.Spelling.{ended, attribute_spelling, entry_spelling, header_spelling, HasSize, AreSized, IsBytes}
 use Rattle.exr_attributes.specs.Reading.{moved, room_of, past_of, bytes_at, byte_at, number_at, text_from, text_at, kind_at, value_at, entry_at, next_at, joined, entries_at, header_at}
 use Rattle.exr_attributes.specs.declared.fault.HeaderFault.TheVariants.{BadName, BadSize, Twice}
 use Rattle.exr_attributes.proofs.Entries.{AreEntries-push}
@@ -66,7 +61,7 @@ bytes_take n p y e =
     } in
     subst (λ (z : List ℕ × Position). Taken z.0 p z.1 × (length z.0 ≡ n)) g.1 (t, len)
 
-one_byte : (l : List ℕ) → length l ≡ 1 → l ≡ get_or l 0 0 ∷ []
+pub one_byte : (l : List ℕ) → length l ≡ 1 → l ≡ get_or l 0 0 ∷ []
 one_byte [] e = absurd (omega (arith, e))
 one_byte (b ∷ []) e = refl
 one_byte (b ∷ c ∷ l) e = absurd (omega (arith, e))

@@ -1,5 +1,5 @@
 -- Reading a header's attributes from the front, with the first fault that is met (the order of faults: own).
-use Rattle.std.specs.Prelude.{◌≡◌, ◌≤◌, ◌==◌, ◌+◌, ◌-◌, ◌^◌, nat_lt, nat_le, min, ℕ, zero, suc, List, [], ◌∷◌, ◌++◌, length, take, drop, slice_index, Option, Some, None, Result, Ok, Err, if◌then◌else◌}
+use Rattle.std.specs.Prelude.{◌≡◌, ◌≤◌, ◌==◌, ◌+◌, ◌-◌, ◌^◌, nat_lt, nat_le, min, ℕ, zero, suc, List, [], ◌∷◌, ◌++◌, length, take, slice_index, Option, Some, None, Result, Ok, Err, if◌then◌else◌}
 use Rattle.std.specs.Int.{w32, from_le_bytes}
 use Rattle.exr_base.specs.Cursor.{Position, left_of}
 use Rattle.exr_base.specs.Refusal.{◌>>=◌, Refuses}

@@ -4,6 +4,7 @@ use Rattle.std.specs.List.{flat_map}
 use Rattle.std.specs.Int.{w32, to_le_bytes}
 use Rattle.exr_attributes.specs.declared.attribute.Attribute.{Attribute}
 use Rattle.exr_attributes.specs.declared.attribute.Entry.{Entry}
+use Rattle.exr_attributes.specs.Entry.{AreEntries}
 
 -- bytes that a zero ends
 abbrev pub ended : List ℕ → List ℕ
@@ -32,6 +33,11 @@ HasSize e = length e.attribute.value < 2 ^ 31
 abbrev pub AreSized : List Entry → Type 0
 AreSized [] = Unit {0}
 AreSized (e ∷ es) = HasSize e × AreSized es
+
+-- the attributes of one header: names and types are names, no name stands twice, and sizes are ints
+pub record AreAttributes (es : List Entry) : Type 0 where
+  pub lawful : AreEntries es
+  pub sizes : AreSized es
 
 -- numbers that are bytes
 abbrev pub IsBytes : List ℕ → Type 0

@@ -52,9 +52,9 @@ pub(crate) fn byte(from: &mut Cursor) -> Result<u8, Refusal<HeaderFault>>
     Ok(bytes[0])
 }
 
-/// The next four bytes, as a number.
+/// The next four bytes of a head, as a number, low byte first. It refuses as [`head_bytes`] does.
 #[tactic(auto, unfolding(crate::specs::Reading::number_at))]
-pub(crate) fn number(from: &mut Cursor) -> Result<u32, Refusal<HeaderFault>>
+pub fn head_number(from: &mut Cursor) -> Result<u32, Refusal<HeaderFault>>
     ensures { Reads (λ number. number) result from.new (number_at from.old) }
 {
     let bytes = head_bytes(from, 4)?;

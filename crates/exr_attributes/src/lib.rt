@@ -13,7 +13,7 @@ mod writing;
 
 pub use attribute::{Attribute, Entry};
 pub use fault::{Bound, Field, HeaderFault};
-pub use front::head_bytes;
+pub use front::{head_bytes, head_number};
 pub use map::AttributeMap;
 pub use name::PackedName;
 pub use reading::read_attributes;

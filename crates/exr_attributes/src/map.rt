@@ -7,6 +7,7 @@
 ghost use Rattle.std.specs.Prelude.{◌≡◌, ◌≤◌, false, [], length, slice_get, MatchOption, IfOk, OnOk, OnErr};
 ghost use Rattle.std.specs.Option.{option_copied};
 ghost use Rattle.exr_attributes.specs.Entry.{AreEntries, IsFirst, attribute_of, with_attribute, without, has_name};
+ghost use Rattle.exr_attributes.specs.Spelling.{AreSized, AreAttributes};
 
 use crate::attribute::{Attribute, Entry};
 use crate::name::PackedName;
@@ -25,13 +26,13 @@ pub struct AttributeMap {
 impl Model for AttributeMap {
     ghost use Rattle.std.specs.Prelude.{List};
     ghost use Rattle.exr_attributes.specs.declared.attribute.Entry.{Entry};
-    ghost use Rattle.exr_attributes.specs.Entry.{AreEntries};
+    ghost use Rattle.exr_attributes.specs.Spelling.{AreAttributes};
 
     ghost Value = { List Entry };
 
     ghost view = { λ m. m.entries.items };
 
-    ghost invariant = { λ m. AreEntries m.entries.items };
+    ghost invariant = { λ m. AreAttributes m.entries.items };
 }
 
 impl AttributeMap {
@@ -55,6 +56,7 @@ impl AttributeMap {
     pub fn entries(&self) -> &[Entry]
         ensures value { result.now ≡ self.now }
         ensures lawful { AreEntries self.now }
+        ensures sized { AreSized self.now }
     {
         self.entries.as_slice()
     }
@@ -95,6 +97,7 @@ impl AttributeMap {
         ensures err { OnErr result (self.new ≡ self.old) }
     {
         let _kind = attribute.kind.bytes();
+        let _value = attribute.value.bytes();
         match place_of(self.entries.as_slice(), name.bytes()) {
             Some(place) => {
                 self.entries[place].attribute = attribute;
@@ -131,7 +134,7 @@ impl AttributeMap {
 
     /// The map of entries that were read.
     pub(crate) fn of(entries: Vec<Entry>) -> AttributeMap
-        requires { AreEntries entries.items }
+        requires { AreAttributes entries.items }
         ensures { result ≡ entries.items }
     {
         AttributeMap { entries }

@@ -17,7 +17,8 @@ use std::marker::Model;
 
 /// A name of an attribute or of a type: 1 to 255 bytes, none of them zero. Its order is that of its bytes.
 ///
-/// File Layout, "Component Three: Header": attribute names and types; "Version Field": long names.
+/// File Layout, "Component Three: Header": attribute names and types; "Components One and Two: Magic Number and
+/// Version Field": long names.
 #[derive(Drop, Debug)]
 pub struct PackedName {
     bytes: Vec<u8>,

@@ -8,7 +8,7 @@ ghost use Rattle.exr_attributes.specs.Reading.{Reads, text_at, kind_at, value_at
 
 use crate::attribute::{Attribute, Entry};
 use crate::fault::HeaderFault;
-use crate::front::{LONGEST, byte, head_bytes, number, past};
+use crate::front::{LONGEST, byte, head_bytes, head_number, past};
 use crate::map::AttributeMap;
 use crate::name::PackedName;
 use crate::value::AttributeValue;
@@ -51,7 +51,7 @@ fn value(alloc: Global, from: &mut Cursor) -> Result<AttributeValue, Refusal<Hea
     ensures { Reads (λ value. value) result from.new (value_at from.old) }
 {
     let start = from.at();
-    let size = number(from)?;
+    let size = head_number(from)?;
     if size >= 1 << 31 {
         return Err(Refusal::Fault(HeaderFault::BadSize { at: start as u64 }));
     }
@@ -120,6 +120,7 @@ fn header(alloc: Global, from: &mut Cursor) -> Result<AttributeMap, Refusal<Head
             None => return Ok(AttributeMap::of(entries)),
         };
         let _kind = entry.attribute.kind.bytes();
+        let _value = entry.attribute.value.bytes();
         let _name = entry.name.bytes();
         let name = entry.name.copy(alloc)?;
         if !names.insert(name)? {

@@ -1,6 +1,9 @@
 pub mod Lists
 pub mod Settled
 pub mod Parts
+pub mod Judged
+pub mod Version
+pub mod Spelled
+pub mod Found
+pub mod Rewritten
 pub mod Sides
-pub mod Limits
-pub mod Listed

@@ -1,7 +1,7 @@
 -- Channels read one after the other, as a loop does.
-use Rattle.std.proofs.Common.{◌≡◌, ℕ, zero, suc, ◌+◌, ◌-◌, ◌<◌, ◌≤◌, List, [], ◌∷◌, ◌++◌, length, Option, Some, None, refl, sym, ap, ◌∙◌, arith}
+use Rattle.std.proofs.Common.{◌≡◌, ℕ, suc, ◌+◌, ◌-◌, ◌<◌, ◌≤◌, List, [], ◌∷◌, ◌++◌, length, Option, Some, None, refl, sym, ◌∙◌, arith}
 use Rattle.exr_base.specs.declared.channel.Channel.{Channel}
-use Rattle.exr_header.specs.Channels.{◌>>=◌, last_name, next_channel, channels_from, channels_of}
+use Rattle.exr_header.specs.Channels.{last_name, next_channel, channels_from, channels_of}
 
 pub begins : (value : List ℕ) (before : List Channel) → before ≡ [] → channels_from (length value - 0) before value ≡ channels_of value
 unfolding channels_of

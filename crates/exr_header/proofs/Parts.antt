@@ -1,5 +1,5 @@
 -- Headers of many parts read one after the other, as a loop does.
-use Rattle.std.proofs.Common.{◌≡◌, ◌≢◌, ℕ, zero, suc, ◌+◌, ◌-◌, ◌<◌, ◌≤◌, Bool, true, false, cond, eqb, List, [], ◌∷◌, ◌++◌, All, length, reverse, Result, Ok, Err, sum_by, refl, sym, ap, subst, ◌∙◌, arith}
+use Rattle.std.proofs.Common.{◌≡◌, ◌≢◌, ℕ, suc, ◌+◌, ◌-◌, ◌<◌, ◌≤◌, true, false, eqb, List, [], ◌∷◌, ◌++◌, All, length, reverse, Result, Ok, Err, sum_by, refl, sym, ap, subst, ◌∙◌, arith}
 use Rattle.std.proofs.lemmas.Bool.Decides.{nat_tests}
 use Rattle.std.specs.Prelude.{IfOk}
 use Rattle.std.proofs.lemmas.List.Elements.{All-same}
@@ -12,9 +12,11 @@ use Rattle.exr_base.specs.declared.refusal.Refusal.TheVariants as refusal
 use Rattle.exr_attributes.specs.declared.fault.HeaderFault.{HeaderFault}
 use Rattle.exr_attributes.specs.declared.attribute.Entry.{Entry}
 use Rattle.exr_attributes.specs.Reading.{Reads, header_at}
+use Rattle.exr_attributes.specs.Spelling.{AreAttributes}
 use Rattle.exr_header.specs.declared.header.Header.{Header}
 use Rattle.exr_header.specs.Picture.{chunk_count_of}
 use Rattle.exr_header.specs.declared.kind.Flags.{Flags}
+use Rattle.exr_header.specs.Spells.{AreHeaders}
 use Rattle.exr_header.specs.Head.{some_parts, part_read, last_at, parts_at, Given, part_given, parts_given}
 
 pub goes_on : (n i word : ℕ) (before : List Header) (p q : Position) (es : List Entry) (h : Header) (total : Result (List Header × Position) HeaderFault) → i < n → header_at p ≡ Ok (es, q) → eqb (length es) 0 ≡ false → part_read word before es ≡ Ok h
@@ -102,6 +104,10 @@ given_ends flags before (x ∷ old) total none so_far = absurd (omega (arith, no
 pub all_same : {X : Type 0} (P : Header → Type 0) (view : X → List Header) (r : Result X (Refusal HeaderFault)) (parts : List Header) → IfOk r (λ x. view x ≡ parts) → All P parts → IfOk r (λ x. All P (view x))
 all_same P view (Ok x) parts e h = All-same P (view x) parts e h
 all_same P view (Err f) parts e h = tt
+
+pub AreHeaders-push : (hs : List Header) (h : Header) → AreHeaders hs → AreAttributes h.attributes → AreHeaders (hs ++ h ∷ [])
+AreHeaders-push [] h all one = (one, tt)
+AreHeaders-push (x ∷ xs) h all one = (all.0, AreHeaders-push xs h all.1 one)
 
 pub pushed_alone : (old new : List Header) (h : Header) → old ≡ [] → new ≡ old ++ h ∷ [] → new ≡ h ∷ []
 pushed_alone old new h none e = e ∙ rw none refl

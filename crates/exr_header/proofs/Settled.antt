@@ -13,7 +13,7 @@ use Rattle.exr_attributes.specs.Reading.{bytes_at, number_at, header_at}
 use Rattle.exr_attributes.proofs.Settled.{IsIn, longer, Settled, settled_then, settled_told, settled_if, bytes_settled, number_settled, header_settled}
 use Rattle.exr_header.specs.declared.header.Header.{Header}
 use Rattle.exr_header.specs.Head.{Head, magic, is_version, has_bit, word_at, version_at, part_read, some_parts, ended_parts, last_at, parts_at, single_at, many_at, head_at, head_of}
-use Rattle.exr_header.specs.Settled.{IsCutShort, IsSettled, IsAllOf}
+use Rattle.exr_header.specs.Settled.{IsCutShort, IsSettled}
 
 word_settled : (input : List ℕ) (p : Position) → IsIn input p → Settled input (word_at p) (λ rest. word_at (longer rest p))
 unfolding word_at
@@ -121,13 +121,3 @@ is_inside bytes x e =
 pub gives_inside : {X : Type 0} (view : X → Head × ℕ) (bytes : List ℕ) (r : Result X (Refusal HeaderFault)) → Gives view r (head_of bytes) → IfOk r (λ x. ((view x).1 ≤ length bytes) × ((view x).1 ≤ 2 ^ 24))
 gives_inside view bytes (Ok x) g = is_inside bytes (view x) g
 gives_inside view bytes (Err e) g = tt
-
--- no head stands at the front of another one
-pub is_prefix_free : (bytes rest : List ℕ) (h k : Head) → IsAllOf bytes h → IsAllOf (bytes ++ rest) k → rest ≡ []
-is_prefix_free bytes rest h k all more =
-    elim (is_settled bytes) [
-      | inl s ↦ absurd (not_both (head_of bytes) (h, length bytes) (Truncated (length bytes)) all s.fault)
-      | inr same ↦
-          let lengths : length (bytes ++ rest) ≡ length bytes = same_length (k, length (bytes ++ rest)) (h, length bytes) (sym more ∙ same rest ∙ all) in
-          nil_from_length rest (omega (arith, lengths, length-append bytes rest))
-    ]

@@ -1,6 +1,6 @@
 -- The judged attributes: their names, types and sizes, and whether they are there. File Layout, "Header Attributes
 -- (All Files)", "Header Attributes for Tile Parts", "Header Attributes for Multi-Part and Deep Data Files".
-use Rattle.std.specs.Prelude.{◌==◌, ℕ, Bool, true, List, [], ◌∷◌, length, codes, Option, Some, None, is_some, Result, Ok, Err, if◌then◌else◌}
+use Rattle.std.specs.Prelude.{◌==◌, ℕ, Bool, true, List, [], length, codes, Option, Some, None, is_some, Result, Ok, Err, if◌then◌else◌}
 use Rattle.std.specs.Str.{bytes_eq}
 use Rattle.exr_base.specs.Refusal.{◌>>=◌}
 use Rattle.exr_attributes.specs.declared.fault.HeaderFault.{HeaderFault}

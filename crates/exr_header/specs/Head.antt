@@ -26,6 +26,9 @@ pub record Head : Type 0 where
   pub multi : Bool
   pub parts : List Header
 
+abbrev pub head_from : Bool → List Header → Head
+head_from multi parts = record { multi = multi; parts = parts }
+
 abbrev pub magic : List ℕ
 magic = 0x76 ∷ 0x2f ∷ 0x31 ∷ 0x01 ∷ []
 
@@ -140,10 +143,17 @@ version_of h =
 abbrev pub parts_spelling : List Header → List ℕ
 parts_spelling parts = flat_map (λ p. header_spelling p.attributes) parts
 
--- the spelling of a head
+-- and, with the flag for many parts, a zero in place of a header
+abbrev pub closing : Bool → List ℕ
+closing multi = if multi then 0 ∷ [] else []
+
+-- the spelling of a head under a version word
+abbrev pub spelling_under : ℕ → Head → List ℕ
+spelling_under word h = (magic ++ to_le_bytes w32 word) ++ (parts_spelling h.parts ++ closing h.multi)
+
+-- the spelling of a head by a writer
 abbrev pub head_spelling : Head → List ℕ
-head_spelling h =
-    (magic ++ to_le_bytes w32 (version_of h)) ++ (parts_spelling h.parts ++ (if h.multi then 0 ∷ [] else []))
+head_spelling h = spelling_under (version_of h) h
 
 -- ---- a head of given parts
 

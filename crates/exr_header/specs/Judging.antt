@@ -1,5 +1,5 @@
 -- Judging a header: from its attributes to what they say, or the first fault in the stated order (own).
-use Rattle.std.specs.Prelude.{◌==◌, ◌+◌, ◌*◌, ◌^◌, ◌&&◌, ◌||◌, not, nat_lt, nat_le, ℕ, Bool, List, [], ◌∷◌, ◌++◌, length, slice_index, sum_by, codes, Option, Some, None, Result, Ok, Err, if◌then◌else◌}
+use Rattle.std.specs.Prelude.{◌==◌, ◌+◌, ◌^◌, ◌&&◌, ◌||◌, not, nat_lt, nat_le, ℕ, Bool, List, length, slice_index, sum_by, Option, Some, None, Result, Ok, Err, if◌then◌else◌}
 use Rattle.std.specs.List.{position_from, list_any}
 use Rattle.std.specs.Str.{bytes_eq}
 use Rattle.exr_base.specs.Refusal.{◌>>=◌}

@@ -8,6 +8,5 @@ pub mod Name
 pub mod Next
 pub mod Picture
 pub mod Show
+pub mod Spells
 pub mod Words
-pub mod Plain
-pub mod Views

@@ -1,5 +1,5 @@
 -- What a part's windows, tiles and chunks are like. File Layout, "Chunk Layout"; Technical Introduction, "Tiles".
-use Rattle.std.specs.Prelude.{◌==◌, ◌≤◌, ◌≤ℤ◌, ◌+◌, ◌-◌, ◌*◌, ◌/◌, ◌%◌, ◌^◌, ◌&&◌, ◌||◌, not, min, nat_lt, nat_le, int_lt, int_le, ℕ, ℤ, pos, neg_ℤ, ◌+ℤ◌, ◌-ℤ◌, Bool, List, slice_index, Option, Some, None, if◌then◌else◌}
+use Rattle.std.specs.Prelude.{◌==◌, ◌≤◌, ◌≤ℤ◌, ◌+◌, ◌-◌, ◌*◌, ◌/◌, ◌%◌, ◌^◌, ◌&&◌, ◌||◌, min, nat_le, int_lt, int_le, ℕ, ℤ, pos, neg_ℤ, ◌+ℤ◌, Bool, List, slice_index, Option, Some, None, if◌then◌else◌}
 use Rattle.exr_base.specs.declared.shape.Box2i.{Box2i}
 use Rattle.exr_base.specs.declared.channel.Channel.{Channel}
 use Rattle.exr_base.specs.Method.{lines_of}

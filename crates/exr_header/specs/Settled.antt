@@ -1,7 +1,7 @@
 -- When the first bytes of an input say what is read of the whole of it.
-use Rattle.std.specs.Prelude.{◌≡◌, ◌≤◌, ◌^◌, ◌++◌, ℕ, List, length, Ok, Err}
+use Rattle.std.specs.Prelude.{◌≡◌, ◌≤◌, ◌^◌, ◌++◌, ℕ, List, length, Err}
 use Rattle.exr_attributes.specs.declared.fault.HeaderFault.TheVariants.{Truncated}
-use Rattle.exr_header.specs.Head.{Head, head_of}
+use Rattle.exr_header.specs.Head.{head_of}
 
 -- the bytes end too soon: that is what is read of them, and they are no more than the longest head has
 pub record IsCutShort (bytes : List ℕ) : Type 0 where
@@ -11,7 +11,3 @@ pub record IsCutShort (bytes : List ℕ) : Type 0 where
 -- whatever follows the bytes, the same is read
 abbrev pub IsSettled : List ℕ → Type 0
 IsSettled bytes = (rest : List ℕ) → head_of (bytes ++ rest) ≡ head_of bytes
-
--- the bytes are a head, and nothing behind it
-abbrev pub IsAllOf : List ℕ → Head → Type 0
-IsAllOf bytes h = head_of bytes ≡ Ok (h, length bytes)

@@ -5,14 +5,16 @@ ghost use Rattle.exr_base.specs.Refusal.{Gives};
 ghost use Rattle.exr_header.specs.Kind.{is_deep, is_kind};
 ghost use Rattle.std.specs.List.{list_any};
 ghost use Rattle.exr_header.specs.Picture.{chunk_count_of, IsPicture};
-ghost use Rattle.exr_header.specs.Head.{flags_given, kind_given, part_given, parts_given, head_within, head_given};
+ghost use Rattle.exr_header.specs.Head.{flags_given, kind_given, part_given, parts_given, head_given};
+ghost use Rattle.exr_attributes.specs.Spelling.{AreAttributes};
+ghost use Rattle.exr_header.specs.Spells.{AreHeaders};
 
 use crate::checks::{chunk_count, judged};
 use crate::head::FileHead;
 use crate::header::Header;
 use crate::kind::{Flags, PartKind};
 use crate::picture::typed_kind;
-use crate::writing::write_head;
+use crate::writing::spelling_of;
 use exr_attributes::{AttributeMap, Bound, HeaderFault};
 use exr_base::Refusal;
 use std::alloc::Global;
@@ -82,7 +84,9 @@ fn part_given(
     ensures exact { Gives (λ header. header) result (part_given flags earlier.now (given, map)) }
     ensures picture { IfOk result IsPicture }
     ensures few { IfOk result (λ header. chunks + chunk_count_of header ≤ 2 ^ 20) }
+    ensures attributes { IfOk result (λ header. AreAttributes header.attributes) }
 {
+    let _entries = map.entries();
     let kind = kind_given(flags, earlier.len() as u32, given, &map)?;
     judged(alloc, flags, earlier, chunks, kind, map)
 }
@@ -96,6 +100,7 @@ fn parts_given(
     requires { length given.items ≤ 1024 }
     ensures exact { Gives (λ parts. parts.items) result (parts_given flags [] given.items) }
     ensures pictures { IfOk result (λ parts. All IsPicture parts.items) }
+    ensures headers { IfOk result (λ parts. AreHeaders parts.items) }
 {
     given.reverse();
     let mut parts = Vec::new(alloc);
@@ -110,17 +115,6 @@ fn parts_given(
             }
         }
     }
-}
-
-/// A head, if its spelling is not too long.
-fn within(alloc: Global, head: FileHead) -> Result<FileHead, Refusal<HeaderFault>>
-    ensures { Gives (λ head. head) result (head_within head) }
-{
-    let bytes = write_head(alloc, &head)?;
-    if bytes.len() > 1 << 24 {
-        return Err(Refusal::Fault(HeaderFault::Limit(Bound::HeadBytes)));
-    }
-    Ok(head)
 }
 
 impl FileHead {
@@ -144,6 +138,10 @@ impl FileHead {
         }
         let flags = flags_given(multi, parts.as_slice());
         let parts = parts_given(alloc, flags, parts)?;
-        within(alloc, FileHead { multi, parts })
+        let bytes = spelling_of(alloc, multi, parts.as_slice())?;
+        if bytes.len() > 1 << 24 {
+            return Err(Refusal::Fault(HeaderFault::Limit(Bound::HeadBytes)));
+        }
+        Ok(FileHead { multi, parts })
     }
 }

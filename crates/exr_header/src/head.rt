@@ -15,20 +15,20 @@ pub struct FileHead {
 }
 
 impl Model for FileHead {
-    ghost use Rattle.std.specs.Prelude.{All};
-    ghost use Rattle.exr_header.specs.Head.{Head};
-    ghost use Rattle.exr_header.specs.Picture.{IsPicture};
+    ghost use Rattle.exr_header.specs.Head.{Head, head_from};
+    ghost use Rattle.exr_header.specs.Spells.{IsHead};
 
     ghost Value = { Head };
 
-    ghost view = { λ h. record { multi = h.multi; parts = h.parts.items } };
+    ghost view = { λ h. head_from h.multi h.parts.items };
 
-    ghost invariant = { λ h. All IsPicture h.parts.items };
+    ghost invariant = { λ h. IsHead (head_from h.multi h.parts.items) };
 }
 
 impl FileHead {
     ghost use Rattle.std.specs.Prelude.{◌≡◌, All};
     ghost use Rattle.exr_header.specs.Picture.{IsPicture};
+    ghost use Rattle.exr_header.specs.Spells.{IsHead};
 
     /// Whether the file has headers for many parts, though it may have one alone.
     pub fn multi(&self) -> bool
@@ -41,6 +41,7 @@ impl FileHead {
     pub fn parts(&self) -> &[Header]
         ensures value { result.now ≡ self.now.parts }
         ensures pictures { All IsPicture self.now.parts }
+        ensures head { IsHead self.now }
     {
         self.parts.as_slice()
     }

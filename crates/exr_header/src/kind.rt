@@ -44,7 +44,7 @@ pub struct Tiles {
 
 /// The bits of a version word that make the attribute `type` say the kind of each part.
 ///
-/// File Layout, "Version Field": bits 11 and 12.
+/// File Layout, "Components One and Two: Magic Number and Version Field": bits 11 and 12.
 #[derive(Clone, Copy, Debug, PartialEq, Eq)]
 pub(crate) struct Flags {
     /// The file has headers for many parts.

@@ -1,6 +1,5 @@
 //! The head of a file: the headers of its parts, read from bytes and judged, written back, and shown as text. What
-//! is read is exactly what the bytes spell, or the first fault from the front. Beside it the plainest head, which
-//! `extract` reads so far.
+//! is read is exactly what the bytes spell, or the first fault from the front.
 #![tactic(auto)]
 
 mod channels;
@@ -10,8 +9,8 @@ mod given;
 mod head;
 mod header;
 mod kind;
+mod laws;
 mod picture;
-mod plain;
 mod reading;
 mod show;
 mod words;
@@ -21,7 +20,7 @@ pub use channels::Channels;
 pub use head::FileHead;
 pub use header::Header;
 pub use kind::{LineOrder, PartKind, Tiles};
-pub use plain::{PlainHead, read_plain};
+pub use laws::spellings_are_prefix_free;
 pub use reading::read_head;
 pub use show::show_head;
 pub use writing::write_head;

@@ -1,18 +1,21 @@
 //! Reading the head of a file.
 
-ghost use Rattle.std.specs.Prelude.{◌≡◌, ◌≤◌, ◌<◌, ◌+◌, ◌^◌, ◌⊎◌, ◌++◌, ℕ, List, [], All, length, sum_by, IfOk};
+ghost use Rattle.std.specs.Prelude.{◌≡◌, ◌≤◌, ◌<◌, ◌+◌, ◌++◌, ◌^◌, ◌⊎◌, ℕ, List, [], All, length, take, sum_by, true, false, IfOk};
 ghost use Rattle.exr_base.specs.Refusal.{Gives};
-ghost use Rattle.exr_attributes.specs.Reading.{Reads, number_at};
+ghost use Rattle.exr_attributes.specs.Reading.{Reads};
 ghost use Rattle.exr_header.specs.Picture.{chunk_count_of, IsPicture};
-ghost use Rattle.exr_header.specs.Head.{has_bit, is_version, flags_of, word_at, version_at, kind_read, part_read, last_at, some_parts, parts_at, single_at, many_at, head_at, head_of, Head};
-ghost use Rattle.exr_header.specs.Settled.{IsCutShort, IsSettled, IsAllOf};
+ghost use Rattle.exr_header.specs.Head.{Head, head_from, has_bit, is_version, flags_of, word_at, version_at, kind_read, part_read, last_at, some_parts, parts_at, single_at, many_at, head_at, head_of};
+ghost use Rattle.exr_header.specs.Settled.{IsCutShort, IsSettled};
+ghost use Rattle.exr_header.specs.Spells.{Spells, head_read};
 
 use crate::checks::{chunk_count, judged};
 use crate::head::FileHead;
 use crate::header::Header;
 use crate::kind::{Flags, PartKind};
 use crate::picture::typed_kind;
-use exr_attributes::{AttributeMap, Bound, Field, HeaderFault, head_bytes, read_attributes};
+use exr_attributes::{
+    AttributeMap, Bound, Field, HeaderFault, head_bytes, head_number, read_attributes,
+};
 use exr_base::{Cursor, Refusal};
 use std::alloc::Global;
 
@@ -41,21 +44,12 @@ fn flags_of(word: u32) -> Flags
     }
 }
 
-/// The next four bytes, as a number.
-#[tactic(auto, unfolding(exr_attributes::specs::Reading::number_at))]
-fn number(from: &mut Cursor) -> Result<u32, Refusal<HeaderFault>>
-    ensures { Reads (λ number. number) result from.new (number_at from.old) }
-{
-    let bytes = head_bytes(from, 4)?;
-    Ok(u32::from_le_bytes([bytes[0], bytes[1], bytes[2], bytes[3]]))
-}
-
 /// A version word.
 #[tactic(auto, unfolding(crate::specs::Head::word_at))]
 fn version_word(from: &mut Cursor) -> Result<u32, Refusal<HeaderFault>>
     ensures { Reads (λ word. word) result from.new (word_at from.old) }
 {
-    let word = number(from)?;
+    let word = head_number(from)?;
     if !is_version(word) {
         return Err(Refusal::Fault(HeaderFault::BadVersion { word }));
     }
@@ -157,38 +151,40 @@ fn some_parts(parts: Vec<Header>) -> Result<Vec<Header>, Refusal<HeaderFault>>
 
 /// The one header of a file of one part.
 #[tactic(auto, unfolding(crate::specs::Head::single_at))]
-fn single(alloc: Global, word: u32, from: &mut Cursor) -> Result<FileHead, Refusal<HeaderFault>>
-    ensures { Reads (λ head. head) result from.new (single_at word from.old) }
+fn single(alloc: Global, word: u32, from: &mut Cursor) -> Result<Vec<Header>, Refusal<HeaderFault>>
+    ensures exact { Reads (λ parts. head_from false parts.items) result from.new (single_at word from.old) }
+    ensures pictures { IfOk result (λ parts. All IsPicture parts.items) }
 {
     let map = read_attributes(alloc, from)?;
     let mut parts = Vec::new(alloc);
     let part = part_read(alloc, word, parts.as_slice(), 0, map)?;
     parts.push(part)?;
-    Ok(FileHead {
-        multi: false,
-        parts,
-    })
+    Ok(parts)
 }
 
 /// The headers of a file of many parts.
 #[tactic(auto, unfolding(crate::specs::Head::many_at))]
-fn many(alloc: Global, word: u32, from: &mut Cursor) -> Result<FileHead, Refusal<HeaderFault>>
-    ensures { Reads (λ head. head) result from.new (many_at word from.old) }
+fn many(alloc: Global, word: u32, from: &mut Cursor) -> Result<Vec<Header>, Refusal<HeaderFault>>
+    ensures exact { Reads (λ parts. head_from true parts.items) result from.new (many_at word from.old) }
+    ensures pictures { IfOk result (λ parts. All IsPicture parts.items) }
 {
     let parts = parts(alloc, word, from)?;
-    Ok(FileHead { multi: true, parts })
+    Ok(parts)
 }
 
-/// The head at the front of some bytes.
+/// The flag for many parts and the headers at the front of some bytes.
 #[tactic(auto, unfolding(crate::specs::Head::head_at))]
-fn head(alloc: Global, from: &mut Cursor) -> Result<FileHead, Refusal<HeaderFault>>
-    ensures { Reads (λ head. head) result from.new (head_at from.old) }
+fn head(alloc: Global, from: &mut Cursor) -> Result<(bool, Vec<Header>), Refusal<HeaderFault>>
+    ensures exact { Reads (λ x. head_from x.0 x.1.items) result from.new (head_at from.old) }
+    ensures pictures { IfOk result (λ x. All IsPicture x.1.items) }
 {
     let word = version(from)?;
     if has_bit(4096, word) {
-        many(alloc, word, from)
+        let parts = many(alloc, word, from)?;
+        Ok((true, parts))
     } else {
-        single(alloc, word, from)
+        let parts = single(alloc, word, from)?;
+        Ok((false, parts))
     }
 }
 
@@ -198,8 +194,8 @@ fn front_head(alloc: Global, bytes: &[u8]) -> Result<(FileHead, usize), Refusal<
     ensures { Gives (λ x. (x.0, x.1)) result (head_of bytes.now) }
 {
     let mut from = Cursor::new(bytes);
-    let head = head(alloc, &mut from)?;
-    Ok((head, from.at()))
+    let (multi, parts) = head(alloc, &mut from)?;
+    Ok((FileHead { multi, parts }, from.at()))
 }
 
 /// The head that the bytes begin with, and how many bytes it fills. The slice is the whole input, or its first bytes:
@@ -212,12 +208,15 @@ fn front_head(alloc: Global, bytes: &[u8]) -> Result<(FileHead, usize), Refusal<
 pub fn read_head(alloc: Global, bytes: &[u8]) -> Result<(FileHead, usize), Refusal<HeaderFault>>
     // What is read, or which fault it is.
     ensures exact { Gives (λ x. (x.0, x.1)) result (head_of bytes.now) }
+    // What is read is spelled so.
+    ensures found { IfOk result (λ x. Spells (take x.1 bytes.now) x.0) }
+    // What is spelled so is read, whatever follows.
+    ensures again { (front : List ℕ) → (rest : List ℕ) → (h : Head) → bytes.now ≡ front ++ rest → Spells front h
+        → Gives (λ x. (x.0, x.1)) result (head_read h (length front)) }
     // The head lies within the bytes, and within its limit.
     ensures inside { IfOk result (λ x. (x.1 ≤ length bytes.now) × (x.1 ≤ 2 ^ 24)) }
     // Unless the bytes end too soon, the same is read whatever follows them.
     ensures settled { IsCutShort bytes.now ⊎ IsSettled bytes.now }
-    // No head begins with a shorter one.
-    ensures prefix_free { (rest : List ℕ) → (h k : Head) → IsAllOf bytes.now h → IsAllOf (bytes.now ++ rest) k → rest ≡ [] }
 {
     front_head(alloc, bytes)
 }

@@ -3,7 +3,8 @@
 ghost use Rattle.std.specs.Prelude.{◌≡◌, ◌≤◌, ◌++◌, OnOk, IfOk};
 ghost use Rattle.std.specs.List.{list_any};
 ghost use Rattle.exr_header.specs.Kind.{is_deep};
-ghost use Rattle.exr_header.specs.Head.{is_long_entry, is_long_channel, is_long_header, is_tiled_kind, bit_of, version_of, parts_spelling, head_spelling};
+ghost use Rattle.exr_header.specs.Head.{is_long_entry, is_long_channel, is_long_header, is_tiled_kind, bit_of, version_of, parts_spelling, head_from, head_spelling};
+ghost use Rattle.exr_header.specs.Spells.{Spells, IsRead};
 
 use crate::head::FileHead;
 use crate::header::Header;
@@ -87,11 +88,9 @@ fn has_deep_data(parts: &[Header]) -> bool
 }
 
 /// The version word of a head.
-fn version_of(head: &FileHead) -> u32
-    ensures { result ≡ version_of head.now }
+fn version_of(multi: bool, parts: &[Header]) -> u32
+    ensures { result ≡ version_of (head_from multi parts.now) }
 {
-    let multi = head.multi();
-    let parts = head.parts();
     let single_tiled = !multi && has_tiles(parts);
     2 + bit_of(single_tiled, 512)
         + bit_of(has_long_names(parts), 1024)
@@ -109,21 +108,33 @@ fn write_parts(alloc: Global, parts: &[Header], to: &mut Vec<u8>) -> Result<(), 
     Ok(())
 }
 
-/// The spelling of a head, as a writer puts it.
+/// The spelling of a head of these parts, as a writer puts it.
+pub(crate) fn spelling_of(alloc: Global, multi: bool, parts: &[Header]) -> Result<Vec<u8>, NoMemory>
+    ensures { IfOk result (λ bytes. bytes.items ≡ head_spelling (head_from multi parts.now)) }
+{
+    let mut to = Vec::new(alloc);
+    to.extend_from_slice(&[0x76, 0x2f, 0x31, 0x01])?;
+    to.extend_from_slice(&version_of(multi, parts).to_le_bytes())?;
+    write_parts(alloc, parts, &mut to)?;
+    if multi {
+        to.push(0)?;
+    }
+    Ok(to)
+}
+
+/// The spelling of a head, as a writer puts it: at most 2^24 bytes, which are read as this head, whatever follows
+/// them.
 ///
 /// Bit 9 is set for one tiled part without the flag, bit 10 where a name of an attribute, a type or a channel has
 /// more than 31 bytes, bit 11 where a part is deep, bit 12 by the flag.
 ///
 /// File Layout, "Components One and Two: Magic Number and Version Field" and "Component Three: Header".
 pub fn write_head(alloc: Global, head: &FileHead) -> Result<Vec<u8>, NoMemory>
-    ensures { IfOk result (λ bytes. bytes.items ≡ head_spelling head.now) }
+    ensures value { IfOk result (λ bytes. bytes.items ≡ head_spelling head.now) }
+    // What is written spells the head.
+    ensures spells { IfOk result (λ bytes. Spells bytes.items head.now) }
+    // What is written is read as the head, whatever follows.
+    ensures again { IfOk result (λ bytes. IsRead bytes.items head.now) }
 {
-    let mut to = Vec::new(alloc);
-    to.extend_from_slice(&[0x76, 0x2f, 0x31, 0x01])?;
-    to.extend_from_slice(&version_of(head).to_le_bytes())?;
-    write_parts(alloc, head.parts(), &mut to)?;
-    if head.multi() {
-        to.push(0)?;
-    }
-    Ok(to)
+    spelling_of(alloc, head.multi(), head.parts())
 }

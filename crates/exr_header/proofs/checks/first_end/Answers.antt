@@ -1,8 +1,7 @@
-use Rattle.std.proofs.Common.{◌≡◌, ◌-◌, ◌≤◌, ◌^◌, pos, ◌+ℤ◌, arith}
+use Rattle.std.proofs.Common.{arith}
 use Rattle.std.proofs.lemmas.Int.{ints, to_z-of_z}
 use Rattle.std.specs.Int.{w32}
 use mir.Val.{SFits}
-use Rattle.exr_base.specs.Sampling.{span_of}
 use Rattle.exr_header.proofs.Sides.{first_end_is, end_within}
 use Rattle.exr_header.proofs.checks.first_end.Goals as goal
 

@@ -1,4 +1,4 @@
-use Rattle.std.proofs.Common.{arith, length, ◌≤◌}
+use Rattle.std.proofs.Common.{arith}
 use Rattle.std.proofs.lemmas.List.Elements.{All-same}
 use Rattle.exr_base.specs.Shape.{IsSampled}
 use Rattle.exr_header.proofs.Sides.{table_small}

@@ -1,4 +1,4 @@
-use Rattle.std.proofs.Common.{◌≡◌, List, [], ◌∷◌, Ok, length, subst, refl, ◌++◌, reverse, arith}
+use Rattle.std.proofs.Common.{◌≡◌, List, [], ◌∷◌, Ok, subst, refl, ◌++◌, arith}
 use Rattle.std.proofs.lemmas.List.Elements.{All-same, All-nil, All-push}
 use Rattle.std.proofs.lemmas.List.{reverse-reverse, length-reverse}
 use Rattle.exr_header.specs.Picture.{IsPicture}
@@ -6,13 +6,14 @@ use Rattle.std.proofs.lemmas.Result.{err_from_is_err_and}
 use Rattle.exr_base.specs.Refusal.{Refuses}
 use Rattle.exr_header.specs.declared.header.Header.{Header}
 use Rattle.exr_header.specs.Head.{part_given, parts_given}
-use Rattle.exr_header.proofs.Parts.{given_goes_on, given_fails, given_ends, counted_more}
+use Rattle.exr_header.proofs.Parts.{given_goes_on, given_fails, given_ends, counted_more, AreHeaders-push}
 use Rattle.exr_header.proofs.given.parts_given.Goals as goal
 
 pub each-init : goal.each-init
 each-init c = record {
   counted = rw c.new-parts.ensures.items refl;
   pictures = All-same IsPicture c.new-parts.result.items [] c.new-parts.ensures.items (All-nil IsPicture);
+  headers = rw c.new-parts.ensures.items tt;
   few = omega arith;
   many = rw (c.new-parts.ensures.items, c.reverse.ensures.items) (omega (arith, length-reverse c.args.given.items, c.requires));
   so_far = rw (c.new-parts.ensures.items, c.reverse.ensures.items, reverse-reverse) refl;
@@ -35,6 +36,7 @@ each-preserved c =
     record {
       counted = rw c.in_ok-push-in-Some.ensures.items (counted_more c.each.parts.items c.in_ok-part-in-Some.part c.each.chunks c.chunk_count-chunks.result c.each.invariant.counted c.chunk_count-chunks.ensures.exact);
       pictures = All-same IsPicture c.push.new.self.items (c.each.parts.items ++ c.in_ok-part-in-Some.part ∷ []) c.in_ok-push-in-Some.ensures.items (All-push IsPicture c.each.parts.items c.in_ok-part-in-Some.part c.each.invariant.pictures c.in_ok-part-in-Some.ensures.picture);
+      headers = rw c.in_ok-push-in-Some.ensures.items (AreHeaders-push c.each.parts.items c.in_ok-part-in-Some.part c.each.invariant.headers c.in_ok-part-in-Some.ensures.attributes);
       few = omega (arith, more, c.chunk_count-chunks.ensures.exact);
       many = omega (arith, c.each.invariant.many, c.in_ok-push-in-Some.ensures.len, c.push.new.self.ok.0, c.each.parts.ok.0, c.in-Some.ensures.cases, c.pop.new.self.ok.0, c.each.given.ok.0);
       so_far = rw c.in_ok-push-in-Some.ensures.items (given_goes_on c.args.flags c.each.parts.items c.each.given.items c.pop.new.self.items (c.in-Some.kind, c.in-Some.map) c.in_ok-part-in-Some.part (parts_given c.args.flags [] c.args.given.items) c.in-Some.ensures.items part c.each.invariant.so_far);

@@ -1,5 +1,4 @@
-use Rattle.std.proofs.Common.{◌≡◌, List, [], ◌∷◌, Ok, false, eqb, length, subst, refl, ◌++◌, arith}
-use Rattle.std.proofs.lemmas.Bool.Decides.{nat_tests}
+use Rattle.std.proofs.Common.{◌≡◌, List, [], ◌∷◌, Ok, length, subst, refl, ◌++◌, arith}
 use Rattle.std.proofs.lemmas.List.Elements.{All-same, All-nil, All-push}
 use Rattle.exr_header.specs.Picture.{IsPicture}
 use Rattle.std.proofs.lemmas.Result.{err_from_is_err_and}
