@@ -3,11 +3,15 @@
 const HELP: &str = "\
 exr reads OpenEXR files. Each command is a line of words KEY=VALUE.
 
+  exr header in=a.exr
+      Prints what the head of a.exr says: of each part its kind, data window,
+      channels and attributes. Every OpenEXR 2 file of one level is read.
+
   exr extract in=a.exr out=b.raw
       Writes the samples of a.exr into b.raw: a plane a channel, one behind the
       other, each row by row from the top, every sample as the file has it. So
-      far a.exr has one part of scan lines with HALF channels of raw data, the
-      eight needed attributes alone and in order, and its chunks in order.
+      far a.exr has one part of scan lines with HALF channels of raw data, and
+      its chunks in order.
 
   exr --help       this text
   exr --version    the version
@@ -15,9 +19,10 @@ exr reads OpenEXR files. Each command is a line of words KEY=VALUE.
 The status is 0, or says why the program stopped:
   1  no memory
   2  a word is not allowed, or one is missing; the line says which, from 0
+  3  a file is faulty; the line says which, from 0, and the fault's number
   4  a file could not be opened or read
   5  a file or standard output could not be written
-  7  the file is none of those above
+  7  the file is none of those that extract reads so far
 ";
 
 const VERSION: &str = "exr 0.1.0\n";
@@ -44,9 +49,11 @@ mod tests {
             assert!(rt; line.len() <= 80, "{line}");
         }
         for word in [
+            "exr header in=a.exr",
             "exr extract in=a.exr out=b.raw",
             "--help",
             "--version",
+            "  3  ",
             "  7  ",
         ] {
             assert!(rt; help.contains(word), "{word}");

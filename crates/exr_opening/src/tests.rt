@@ -109,7 +109,16 @@ fn opened(
 fn heads_of_many_sizes(rt: HostRuntime) -> Result<(), Fail> {
     let alloc = rt.alloc();
     for size in [
-        0u32, 1, 65_000, 65_220, 65_221, 65_300, 131_000, 140_000, 1 << 20, 5_000_000,
+        0u32,
+        1,
+        65_000,
+        65_220,
+        65_221,
+        65_300,
+        131_000,
+        140_000,
+        1 << 20,
+        5_000_000,
     ] {
         let head = head_with(alloc, size)?;
         let bytes = head.len() as u64;
@@ -120,7 +129,10 @@ fn heads_of_many_sizes(rt: HostRuntime) -> Result<(), Fail> {
         }
         let cut = bytes - 1;
         let (answer, _) = opened(alloc, &head, cut)?;
-        assert_eq!(rt; answer, Err(OpenFault::Head(HeaderFault::Truncated { at: cut })));
+        assert_eq!(rt;
+            answer,
+            Err(OpenFault::Head(HeaderFault::Truncated { at: cut }))
+        );
     }
     Ok(())
 }
@@ -140,7 +152,10 @@ fn faults_of_long_files(rt: HostRuntime) -> Result<(), Fail> {
         assert_eq!(rt; read, (1 << 24) + 1);
     }
     let (answer, read) = opened(alloc, &[], 0)?;
-    assert_eq!(rt; answer, Err(OpenFault::Head(HeaderFault::Truncated { at: 0 })));
+    assert_eq!(rt;
+        answer,
+        Err(OpenFault::Head(HeaderFault::Truncated { at: 0 }))
+    );
     assert_eq!(rt; read, 0);
     Ok(())
 }

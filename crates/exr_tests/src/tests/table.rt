@@ -65,12 +65,7 @@ fn plain_files_and_others(rt: HostRuntime) -> Result<(), Fail> {
             None,
             "",
         ),
-        (
-            &[],
-            Some(head(HeaderFault::Truncated { at: 0 })),
-            None,
-            "",
-        ),
+        (&[], Some(head(HeaderFault::Truncated { at: 0 })), None, ""),
     ];
     for (file, stop, written, printed) in rows {
         for words in [EXTRACT, &["extract", "out=b", "in=a"]] {
@@ -109,10 +104,7 @@ fn heads_and_their_faults(rt: HostRuntime) -> Result<(), Fail> {
             &ONE_SAMPLE[..276],
             Some(head(HeaderFault::Truncated { at: 276 })),
         ),
-        (
-            b"not an OpenEXR file",
-            Some(head(HeaderFault::BadMagic)),
-        ),
+        (b"not an OpenEXR file", Some(head(HeaderFault::BadMagic))),
         (&[], Some(head(HeaderFault::Truncated { at: 0 }))),
     ];
     for (file, stop) in rows {
@@ -206,11 +198,7 @@ fn lines_of_stops(rt: HostRuntime) -> Result<(), Fail> {
     let rows = [
         (Stop::NoMemory, 1, "exr: no memory\n"),
         (Stop::Words { position: 2 }, 2, "exr: word 2\n"),
-        (
-            head(HeaderFault::BadMagic),
-            3,
-            "exr: file 0 head fault 5\n",
-        ),
+        (head(HeaderFault::BadMagic), 3, "exr: file 0 head fault 5\n"),
         (Stop::Read, 4, "exr: read fault\n"),
         (Stop::Write, 5, "exr: write fault\n"),
         (Stop::Form, 7, "exr: form\n"),
