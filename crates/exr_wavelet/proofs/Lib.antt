@@ -4,3 +4,4 @@ pub mod Inverse
 pub mod LevelLaws
 pub mod Waves
 pub mod Worked
+pub mod Room

@@ -1,5 +1,5 @@
 -- A matrix in a slice: which word is which, and what a change leaves.
-use Rattle.std.specs.Prelude.{◌≡◌, ◌≢◌, ℕ, ◌+◌, ◌*◌, ◌<◌, List, length, slice_index}
+use Rattle.std.specs.Prelude.{◌≡◌, ◌≢◌, ℕ, ◌+◌, ◌*◌, ◌<◌, List, slice_index}
 use Rattle.exr_wavelet.specs.declared.level.Grid.{Grid}
 use Rattle.exr_wavelet.specs.Level.{Matrix}
 

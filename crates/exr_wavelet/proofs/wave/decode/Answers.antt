@@ -1,4 +1,4 @@
-use Rattle.std.proofs.Common.{◌≡◌, ℕ, ◌<◌, ◌≤◌, ◌∙◌}
+use Rattle.std.proofs.Common.{◌∙◌}
 use Rattle.exr_wavelet.specs.Places.{words_of}
 use Rattle.exr_wavelet.proofs.Waves.{unwave_of-wave_of}
 use Rattle.exr_wavelet.proofs.wave.decode.Goals as goal

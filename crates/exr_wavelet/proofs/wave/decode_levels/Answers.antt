@@ -1,4 +1,4 @@
-use Rattle.std.proofs.Common.{◌≡◌, ℕ, ◌+◌, ◌*◌, ◌/◌, ◌<◌, ◌≤◌, min, length, refl, arith}
+use Rattle.std.proofs.Common.{◌/◌, min, refl, arith}
 use Rattle.exr_wavelet.proofs.Waves.{reached_none, reached_more, decoding_none, decoding_more, decoding_all}
 use Rattle.exr_wavelet.proofs.wave.decode_levels.Goals as goal
 

@@ -1,4 +1,4 @@
-use Rattle.std.proofs.Common.{◌≡◌, ℕ, ◌+◌, ◌*◌, ◌/◌, ◌<◌, ◌≤◌, min, length, arith}
+use Rattle.std.proofs.Common.{arith}
 use Rattle.exr_wavelet.proofs.Waves.{encoded_none, encoded_more, encoded_all}
 use Rattle.exr_wavelet.proofs.wave.encode_levels.Goals as goal
 
