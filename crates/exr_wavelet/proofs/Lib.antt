@@ -5,3 +5,4 @@ pub mod LevelLaws
 pub mod Waves
 pub mod Worked
 pub mod Room
+pub mod TwoLines

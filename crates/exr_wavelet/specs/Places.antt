@@ -7,6 +7,10 @@ use Rattle.exr_wavelet.specs.Level.{Matrix}
 abbrev pub place_of : Grid → ℕ → ℕ → ℕ
 place_of g x y = g.first + (y * g.nx + x) * g.step
 
+-- two lines of so many words, one behind the other
+abbrev pub two_lines : ℕ → Grid
+two_lines nx = record { first = 0; nx = nx; ny = 2; step = 1 }
+
 -- the words that stand so as a matrix
 abbrev pub words_of : List ℕ → ℕ → ℕ → ℕ → Matrix
 words_of words first nx step x y = slice_index words (first + (y * nx + x) * step)

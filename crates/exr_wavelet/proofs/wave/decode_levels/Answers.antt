@@ -14,7 +14,7 @@ levels-init c = record { some = omega arith; done = decoding_none c.args.words.n
 pub levels-preserved : goal.levels-preserved
 levels-preserved c = record {
   some = omega arith;
-  done = decoding_more c.args.words.now c.levels.words c.step_any_level.new.words c.args.grid c.args.max c.levels.p (c.levels.p / 2) (omega arith) refl c.levels.invariant.done c.step_any_level.ensures;
+  done = decoding_more c.args.words.now c.levels.words c.step_level.new.words c.args.grid c.args.max c.levels.p (c.levels.p / 2) (omega arith) refl c.levels.invariant.done c.step_level.ensures;
 }
 
 pub returns : goal.returns
