@@ -1,10 +1,6 @@
 /* The plain C twin of exr_huffman::unpack: the same canonical codes, a table of 4,096 fronts over a window of 64 bits,
-   and longer codes by their length from the least that a front allows.
-   Use: huffman FILE WORDS REPEATS - unpacks the block in FILE so often and prints the wrapping sum of its words. */
-#include <stdint.h>
-#include <stdio.h>
-#include <stdlib.h>
-#include <string.h>
+   and longer codes by their length from the least that a front allows. */
+#include "twin.h"
 
 typedef struct { uint32_t entry; uint8_t len, least; } Fast;
 
@@ -115,17 +111,14 @@ static int unpack(const uint8_t *packed, size_t size, uint16_t *words, size_t wa
     return place == bits && k == wanted;
 }
 
-int main(int argc, char **argv) {
-    if (argc != 4) return 2;
-    static uint8_t packed[1 << 26];
-    FILE *file = fopen(argv[1], "rb");
-    size_t size = file ? fread(packed, 1, sizeof packed, file) : 0, wanted = strtoul(argv[2], 0, 10);
-    uint16_t *words = malloc(2 * wanted);
-    uint64_t sum = 0;
-    for (unsigned long n = strtoul(argv[3], 0, 10); n > 0; n--) {
-        if (!unpack(packed, size, words, wanted)) return 1;
-        for (size_t k = 0; k < wanted; k++) sum += words[k];
+static int run(const char *kernel) {
+    if (strcmp(kernel, "huffman-unpack")) return 2;
+    size_t wanted = front_number();
+    for (unsigned long turn = 0; turn < repeats; turn++) {
+        uint16_t *words = malloc(2 * wanted + 1);
+        if (!unpack(file_bytes, file_size, words, wanted)) return 7;
+        ADD_TURN(turn, words, wanted);
+        free(words);
     }
-    printf("%llu\n", (unsigned long long)sum);
     return 0;
 }

@@ -1,10 +1,8 @@
 -- What was paired, squared or levelled comes back.
-use Rattle.std.proofs.Common.{◌≡◌, ◌≢◌, ℕ, zero, suc, ◌+◌, ◌-◌, ◌*◌, ◌/◌, ◌%◌, ◌^◌, ◌<◌, ◌≤◌, ◌⊎◌, inl, inr, Bool, true, false, ◌&&◌, cond, eqb, ltb, leb, refl, sym, ap, subst, ◌∙◌, arith}
-use Rattle.std.proofs.lemmas.Bool.{cases_eq, cases_lt, eq-eqb, ne_eqb, eqb-true, eqb-false, lt-ltb, le-ltb, ltb-true, ltb-false, le-leb, lt-leb, leb-true, leb-false}
+use Rattle.std.proofs.Common.{◌≡◌, ℕ, ◌+◌, ◌-◌, ◌/◌, ◌%◌, ◌<◌, ◌≤◌, Bool, true, false, cond, ltb, refl, ap, ◌∙◌, arith}
+use Rattle.std.proofs.lemmas.Bool.{ltb-true, ltb-false}
 use Rattle.exr_wavelet.specs.declared.pair.Square.{Square}
-use Rattle.exr_wavelet.specs.declared.pair.Way.{Way}
-use Rattle.exr_wavelet.specs.declared.pair.Way.TheVariants.{Encode, Decode}
-use Rattle.exr_wavelet.specs.Pair.{above_least, small_pair_of, small_back_of, wrapped_pair_of, wrapped_back_of, pair_of, back_of, square_of, unsquare_of, pair_by, square_by}
+use Rattle.exr_wavelet.specs.Pair.{above_least, small_pair_of, small_back_of, wrapped_pair_of, wrapped_back_of, pair_of, back_of, square_of, unsquare_of}
 
 -- a word with sign that is less than a quarter of all away from 0
 pub record IsNear (a : ℕ) : Type 0 where

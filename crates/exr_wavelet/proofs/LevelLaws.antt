@@ -1,13 +1,12 @@
 -- A level of words that agree, and a level undone.
-use Rattle.std.proofs.Common.{◌≡◌, ◌≢◌, ℕ, zero, suc, ◌+◌, ◌-◌, ◌*◌, ◌/◌, ◌%◌, ◌<◌, ◌≤◌, ◌⊎◌, inl, inr, Bool, true, false, ◌&&◌, cond, eqb, ltb, leb, refl, sym, ap, subst, ◌∙◌, arith}
-use Rattle.std.proofs.lemmas.Bool.{cases_eq, cases_lt, eq-eqb, ne_eqb, eqb-true, eqb-false, leb-true, leb-false, le-leb}
-use Rattle.std.proofs.Math.Nat.{mul-le-mul_right}
+use Rattle.std.proofs.Common.{◌≡◌, ◌≢◌, ℕ, ◌+◌, ◌*◌, ◌/◌, ◌%◌, ◌<◌, ◌≤◌, inl, inr, Bool, true, false, ◌&&◌, eqb, leb, refl, sym, ap, subst, ◌∙◌, arith}
+use Rattle.std.proofs.lemmas.Bool.{cases_eq, eq-eqb, ne_eqb, eqb-true, leb-true, le-leb}
 use Rattle.exr_wavelet.specs.declared.pair.Square.{Square}
 use Rattle.exr_wavelet.specs.declared.pair.Way.{Way}
 use Rattle.exr_wavelet.specs.declared.pair.Way.TheVariants.{Encode, Decode}
 use Rattle.exr_wavelet.specs.Pair.{pair_of, back_of, square_of, unsquare_of, pair_by, square_by}
 use Rattle.exr_wavelet.specs.Level.{Matrix, square_at, put_square, put_column, put_line, start_of, is_whole, is_odd_end, level_by, wave_level_of, unwave_level_of}
-use Rattle.exr_wavelet.proofs.Levels.{put_square_same, put_line_same, put_column_same, square_same, pair_same, start_le, start_next, start_at}
+use Rattle.exr_wavelet.proofs.Levels.{put_square_same, put_line_same, put_column_same, square_same, pair_same, start_at}
 use Rattle.exr_wavelet.proofs.Inverse.{bound_of, back_of-pair_of, mean_in_bound, InBound, unsquare_of-square_of, square_mean_in_bound}
 
 -- two matrices have the same words in their columns and lines

@@ -1,13 +1,11 @@
 -- A level step by step: what is done so far, place by place.
-use Rattle.std.proofs.Common.{◌≡◌, ◌≢◌, ℕ, zero, suc, ◌+◌, ◌-◌, ◌*◌, ◌/◌, ◌%◌, ◌<◌, ◌≤◌, ◌⊎◌, inl, inr, Bool, true, false, ◌&&◌, cond, eqb, ltb, leb, List, length, get_or, refl, sym, ap, subst, ◌∙◌, arith}
-use Rattle.std.proofs.lemmas.Bool.{cases_eq, cases_lt, eq-eqb, ne_eqb, eqb-true, eqb-false, lt-ltb, le-ltb, le-leb, lt-leb, leb-true, leb-false, true≢false}
+use Rattle.std.proofs.Common.{◌≡◌, ◌≢◌, ℕ, ◌+◌, ◌*◌, ◌/◌, ◌%◌, ◌<◌, ◌≤◌, inl, inr, Bool, true, false, ◌&&◌, cond, eqb, ltb, refl, sym, ap, ◌∙◌, arith}
+use Rattle.std.proofs.lemmas.Bool.{cases_eq, cases_lt, eq-eqb, ne_eqb, lt-ltb, le-ltb, le-leb, lt-leb, leb-true, true≢false}
 use Rattle.std.proofs.Math.Nat.{mul-le-mul_right, lt-div-mul-add, div-mul-le_self}
-use Rattle.exr_wavelet.specs.declared.level.Grid.{Grid}
 use Rattle.exr_wavelet.specs.declared.pair.Square.{Square}
 use Rattle.exr_wavelet.specs.declared.pair.Way.{Way}
 use Rattle.exr_wavelet.specs.Pair.{pair_by, square_by}
 use Rattle.exr_wavelet.specs.Level.{Matrix, square_at, put_square, put_column, put_line, start_of, is_whole, is_odd_end, squares_along, pairs_along, two_lines_of, level_by}
-use Rattle.exr_wavelet.specs.Places.{place_of, matrix_of, IsWithin, Becomes}
 
 -- ---- multiples
 

@@ -4,3 +4,5 @@ pub mod Inverse
 pub mod LevelLaws
 pub mod Waves
 pub mod Worked
+pub mod Room
+pub mod TwoLines

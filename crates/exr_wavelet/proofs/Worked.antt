@@ -1,5 +1,5 @@
 -- The definitions at worked values.
-use Rattle.std.specs.Prelude.{◌≡◌, ℕ, ◌+◌, ◌*◌, refl}
+use Rattle.std.specs.Prelude.{◌≡◌, ◌+◌, ◌*◌, refl}
 use Rattle.exr_wavelet.specs.Pair.{pair_of, back_of}
 use Rattle.exr_wavelet.specs.Level.{Matrix}
 use Rattle.exr_wavelet.specs.Wave.{wave_of, wave_below}

@@ -1,5 +1,5 @@
 -- Two words as their mean and their difference, and back; and a square of four words, rows and then columns.
-use Rattle.std.specs.Prelude.{◌≡◌, ℕ, ◌+◌, ◌-◌, ◌*◌, ◌/◌, ◌%◌, nat_lt, if◌then◌else◌}
+use Rattle.std.specs.Prelude.{ℕ, ◌+◌, ◌-◌, ◌/◌, ◌%◌, nat_lt, if◌then◌else◌}
 use Rattle.exr_wavelet.specs.declared.pair.Square.{Square}
 use Rattle.exr_wavelet.specs.declared.pair.Way.{Way}
 use Rattle.exr_wavelet.specs.declared.pair.Way.TheVariants.{Encode, Decode}

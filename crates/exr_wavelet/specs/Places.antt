@@ -1,11 +1,15 @@
 -- A matrix in a slice: which word is which, and what a change leaves.
-use Rattle.std.specs.Prelude.{◌≡◌, ◌≢◌, ℕ, ◌+◌, ◌*◌, ◌<◌, List, length, slice_index}
+use Rattle.std.specs.Prelude.{◌≡◌, ◌≢◌, ℕ, ◌+◌, ◌*◌, ◌<◌, List, slice_index}
 use Rattle.exr_wavelet.specs.declared.level.Grid.{Grid}
 use Rattle.exr_wavelet.specs.Level.{Matrix}
 
 -- where the word in column x of line y stands
 abbrev pub place_of : Grid → ℕ → ℕ → ℕ
 place_of g x y = g.first + (y * g.nx + x) * g.step
+
+-- two lines of so many words, one behind the other
+abbrev pub two_lines : ℕ → Grid
+two_lines nx = record { first = 0; nx = nx; ny = 2; step = 1 }
 
 -- the words that stand so as a matrix
 abbrev pub words_of : List ℕ → ℕ → ℕ → ℕ → Matrix

@@ -1,5 +1,5 @@
 -- All levels of the wavelet: one for each step 1, 2, 4 and so on of which twice fits both sides.
-use Rattle.std.specs.Prelude.{ℕ, zero, suc, ◌+◌, ◌*◌, ◌^◌, min, nat_le, if◌then◌else◌}
+use Rattle.std.specs.Prelude.{ℕ, zero, suc, ◌*◌, ◌^◌, min, nat_le, if◌then◌else◌}
 use Rattle.exr_wavelet.specs.Level.{Matrix, wave_level_of, unwave_level_of}
 
 -- the levels for the steps below 2 ^ n, from the least up

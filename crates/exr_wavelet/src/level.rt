@@ -5,6 +5,7 @@ ghost use Rattle.exr_wavelet.specs.Pair.{pair_by, square_by};
 ghost use Rattle.exr_wavelet.specs.Level.{Matrix, square_at, put_square, put_column, put_line, squares_along, pairs_along, two_lines_of, level_by};
 ghost use Rattle.exr_wavelet.specs.Places.{place_of, matrix_of, IsWithin, Becomes};
 
+use crate::lines::step_both;
 use crate::pair::{Square, Way, step, step_square};
 
 /// Where the words of a matrix stand: the first one, how many columns and lines there are, and how far words are apart.
@@ -104,10 +105,27 @@ fn step_squares(words: &mut [u16], grid: Grid, y: usize, p: usize, way: Way, max
     requires below { y + p < grid.ny }
     ensures { Becomes words.old words.new grid (squares_along way max grid.nx p y (matrix_of words.old grid)) }
 {
+    if grid.step == 1 && p == 1 {
+        return step_side_by_side(words, grid, y, way, max);
+    }
     let size = 2 * p;
     for i in 0..grid.nx / size {
         step_square_at(words, grid, i * size, y, p, way, max);
     }
+}
+
+/// Steps the squares of two lines at the first level, where words stand side by side.
+#[inline(always)]
+fn step_side_by_side(words: &mut [u16], grid: Grid, y: usize, way: Way, max: u16)
+    requires within { IsWithin grid (length words.old) }
+    requires spread { grid.step ≡ 1 }
+    requires wide { 2 ≤ grid.nx }
+    requires below { y + 1 < grid.ny }
+    ensures { Becomes words.old words.new grid (squares_along way max grid.nx 1 y (matrix_of words.old grid)) }
+{
+    let first = grid.place(0, y, words.len());
+    let last = grid.place(grid.nx - 1, y + 1, words.len());
+    step_both(&mut words[first..last + 1], grid.nx, way, max);
 }
 
 /// Steps the pairs of a line.

@@ -4,6 +4,7 @@
 #![tactic(auto)]
 
 mod level;
+mod lines;
 mod pair;
 mod wave;
 

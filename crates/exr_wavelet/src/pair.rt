@@ -1,7 +1,7 @@
 //! Two words as their mean and difference, and back, and the four words of a square.
 
-ghost use Rattle.std.specs.Prelude.{◌≡◌, ◌+◌, ◌/◌};
-ghost use Rattle.exr_wavelet.specs.Pair.{pair_by, square_by, pair_of, back_of};
+ghost use Rattle.std.specs.Prelude.{◌≡◌, ◌+◌, ◌/◌, ◌%◌};
+ghost use Rattle.exr_wavelet.specs.Pair.{above_least, pair_by, square_by, pair_of, back_of};
 
 /// Which way the wavelet goes.
 #[derive(Clone, Copy)]
@@ -19,12 +19,23 @@ pub(crate) struct Square {
     pub(crate) across: u16,
 }
 
-/// The half of a sum, rounded down. The form is one that a processor has an instruction for.
+/// The half of a sum, rounded down.
 #[inline(always)]
 fn half_sum(a: u16, b: u16) -> u16
     ensures { result ≡ (a + b) / 2 }
 {
-    u16::MAX - ((u32::from(u16::MAX - a) + u32::from(u16::MAX - b) + 1) / 2) as u16
+    ((u32::from(a) + u32::from(b)) / 2) as u16
+}
+
+/// The half of a sum of words with sign, rounded down. Each is first made as wide as a sum of two wants, which is one
+/// instruction in this form.
+#[inline(always)]
+fn signed_half_sum(a: u16, b: u16) -> u16
+    ensures { result ≡ ((above_least a + above_least b) / 2 + 32768) % 65536 }
+{
+    let first = u32::from(a.wrapping_add(32768)).wrapping_sub(32768);
+    let second = u32::from(b.wrapping_add(32768)).wrapping_sub(32768);
+    (first.wrapping_add(second) / 2 & 0xffff) as u16
 }
 
 /// A mean and a difference.
@@ -32,11 +43,10 @@ fn half_sum(a: u16, b: u16) -> u16
 fn pair(max: u16, a: u16, b: u16) -> (u16, u16)
     ensures { result ≡ pair_of max a b }
 {
-    let moved = a.wrapping_add(32768);
     if max < 16384 {
-        let mean = half_sum(moved, b.wrapping_add(32768));
-        (mean.wrapping_add(32768), a.wrapping_sub(b))
+        (signed_half_sum(a, b), a.wrapping_sub(b))
     } else {
+        let moved = a.wrapping_add(32768);
         let mean = half_sum(moved, b);
         let mean = if moved < b {
             mean.wrapping_add(32768)

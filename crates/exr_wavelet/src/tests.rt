@@ -1,6 +1,13 @@
-//! The worked values: two by two words, either way, and sides of 1 and 0.
+//! The worked values, sides of 1 and 0, and odd sizes against a plain, slow program.
+
+mod plain;
 
 use super::*;
+use crate::pair::Way;
+use plain::slow_wave;
+use std::alloc::{AllocError, Global};
+use std::process::Abort;
+use std::test::Fail;
 
 fn encoded(words: [u16; 4], max: u16) -> [u16; 4] {
     let mut words = words;
@@ -31,4 +38,131 @@ fn sides_without_levels(rt: HostRuntime) {
     decode(&mut words, 0, usize::MAX, 0, 1, 7);
     encode(&mut words, usize::MAX, 0, usize::MAX, 2, 7);
     assert_eq!(rt; words, [7]);
+}
+
+/// A matrix in a slice, which has three words more behind it, and the greatest word.
+#[derive(Clone, Copy)]
+struct Case {
+    nx: usize,
+    ny: usize,
+    step: usize,
+    first: usize,
+    max: u16,
+}
+
+impl Case {
+    fn count(self) -> usize {
+        self.nx.wrapping_mul(self.ny)
+    }
+
+    /// Where word k of the matrix stands, counted line by line.
+    fn place(self, k: usize) -> usize {
+        self.first.wrapping_add(k.wrapping_mul(self.step))
+    }
+
+    /// Words of at most the greatest one, in no order, for the whole slice.
+    fn words(self, alloc: Global) -> Result<Vec<u16>, AllocError> {
+        let mut words = Vec::new(alloc);
+        let mut state = 1u32;
+        for _ in 0..self.place(self.count()).wrapping_add(3) {
+            state = state.wrapping_mul(1664525).wrapping_add(1013904223);
+            let word = (state >> 15) % (u32::from(self.max) + 1);
+            words.push((word & 0xffff) as u16)?;
+        }
+        Ok(words)
+    }
+
+    /// The slice as the plain program leaves it.
+    fn expected(self, alloc: Global, words: &[u16], way: Way) -> Result<Vec<u16>, AllocError> {
+        let mut matrix = Vec::new(alloc);
+        for k in 0..self.count() {
+            matrix.push(words.get(self.place(k)).copied().unwrap_or(0))?;
+        }
+        let stepped = slow_wave(alloc, way, self.max, self.nx, self.ny, matrix)?;
+        let mut expected = Vec::from_slice(alloc, words)?;
+        for (k, word) in stepped.iter().enumerate() {
+            if let Some(there) = expected.get_mut(self.place(k)) {
+                *there = *word;
+            }
+        }
+        Ok(expected)
+    }
+
+    /// The wavelet in place, where the slice has room for the matrix.
+    fn step(self, words: &mut [u16], way: Way) -> bool {
+        let Some(count) = self.nx.checked_mul(self.ny) else {
+            return false;
+        };
+        let Some(room) = count.checked_mul(self.step) else {
+            return false;
+        };
+        if self.step == 0 || self.first > words.len() || room > words.len() - self.first {
+            return false;
+        }
+        match way {
+            Way::Encode => encode(words, self.first, self.nx, self.ny, self.step, self.max),
+            Way::Decode => decode(words, self.first, self.nx, self.ny, self.step, self.max),
+        }
+        true
+    }
+}
+
+/// Either way against the plain program, and back from what was encoded.
+fn try_case(rt: &impl Abort, alloc: Global, case: Case) -> Result<(), Fail> {
+    let Case {
+        nx,
+        ny,
+        step,
+        first,
+        max,
+    } = case;
+    let words = case.words(alloc)?;
+    for way in [Way::Encode, Way::Decode] {
+        let expected = case.expected(alloc, &words, way)?;
+        let mut found = Vec::from_slice(alloc, &words)?;
+        assert!(rt; case.step(&mut found, way));
+        assert!(rt;
+            found.as_slice() == expected.as_slice(),
+            "{nx} by {ny}, step {step} from {first}, {max}"
+        );
+    }
+    let mut back = Vec::from_slice(alloc, &words)?;
+    assert!(rt; case.step(&mut back, Way::Encode));
+    assert!(rt; case.step(&mut back, Way::Decode));
+    assert!(rt;
+        back.as_slice() == words.as_slice(),
+        "{nx} by {ny}, step {step} from {first}, {max}: back"
+    );
+    Ok(())
+}
+
+#[test]
+fn odd_sizes(rt: HostRuntime) -> Result<(), Fail> {
+    let sizes = [
+        (1, 1),
+        (1, 9),
+        (9, 1),
+        (2, 2),
+        (2, 7),
+        (5, 3),
+        (3, 5),
+        (17, 33),
+        (33, 17),
+        (32, 40),
+    ];
+    for (nx, ny) in sizes {
+        for (step, first) in [(1, 0), (1, 5), (2, 0), (2, 3), (3, 1)] {
+            for max in [1, 16383, 16384, 65535] {
+                let case = Case {
+                    nx,
+                    ny,
+                    step,
+                    first,
+                    max,
+                };
+                try_case(&rt, rt.alloc(), case)?;
+            }
+        }
+    }
+    Ok(())
 }

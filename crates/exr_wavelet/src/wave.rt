@@ -1,7 +1,7 @@
 //! All levels of the wavelet, in place.
 
 ghost use Rattle.std.specs.Prelude.{◌≡◌, ◌≢◌, ℕ, ◌+◌, ◌*◌, ◌<◌, ◌≤◌, length, slice_index};
-ghost use Rattle.exr_wavelet.specs.Level.{Matrix, level_by};
+ghost use Rattle.exr_wavelet.specs.Level.{Matrix};
 ghost use Rattle.exr_wavelet.specs.Wave.{wave_of, unwave_of, wave_below, unwave_below};
 ghost use Rattle.exr_wavelet.specs.Places.{words_of, matrix_of, IsWithin, Becomes};
 
@@ -23,11 +23,7 @@ pub fn encode(words: &mut [u16], first: usize, nx: usize, ny: usize, step: usize
         ny,
         step,
     };
-    if max < 16384 {
-        encode_levels(words, grid, max);
-    } else {
-        encode_levels(words, grid, max);
-    }
+    encode_levels(words, grid, max);
 }
 
 /// The inverse of `encode`, on the same places.
@@ -47,11 +43,7 @@ pub fn decode(words: &mut [u16], first: usize, nx: usize, ny: usize, step: usize
         ny,
         step,
     };
-    if max < 16384 {
-        decode_levels(words, grid, max);
-    } else {
-        decode_levels(words, grid, max);
-    }
+    decode_levels(words, grid, max);
 }
 
 /// The levels from the least step up.
@@ -64,7 +56,7 @@ fn encode_levels(words: &mut [u16], grid: Grid, max: u16)
     let side = grid.nx.min(grid.ny);
     let mut p = 1;
     'levels: while p <= side / 2 {
-        step_any_level(words, grid, p, Way::Encode, max);
+        step_level(words, grid, p, Way::Encode, max);
         p *= 2;
     }
 }
@@ -83,30 +75,6 @@ fn decode_levels(words: &mut [u16], grid: Grid, max: u16)
     }
     'levels: while p > 1 {
         p /= 2;
-        step_any_level(words, grid, p, Way::Decode, max);
-    }
-}
-
-/// One level. The first one on words that stand side by side is the greatest work, and its loop is one that a compiler
-/// turns into vectors where it knows both numbers.
-#[inline(always)]
-fn step_any_level(words: &mut [u16], grid: Grid, p: usize, way: Way, max: u16)
-    requires within { IsWithin grid (length words.old) }
-    requires spread { 1 ≤ grid.step }
-    requires apart { 1 ≤ p }
-    requires wide { 2 * p ≤ grid.nx }
-    requires high { 2 * p ≤ grid.ny }
-    ensures { Becomes words.old words.new grid (level_by way max grid.nx grid.ny p (matrix_of words.old grid)) }
-{
-    if grid.step == 1 && p == 1 {
-        let side_by_side = Grid {
-            first: grid.first,
-            nx: grid.nx,
-            ny: grid.ny,
-            step: 1,
-        };
-        step_level(words, side_by_side, 1, way, max);
-    } else {
-        step_level(words, grid, p, way, max);
+        step_level(words, grid, p, Way::Decode, max);
     }
 }

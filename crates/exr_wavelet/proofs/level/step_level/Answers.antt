@@ -1,6 +1,6 @@
-use Rattle.std.proofs.Common.{◌≡◌, ℕ, ◌+◌, ◌*◌, ◌/◌, ◌%◌, ◌<◌, ◌≤◌, length, sym, ap, ◌∙◌, arith}
-use Rattle.exr_wavelet.specs.Level.{Matrix, level_by, pairs_along, two_lines_of}
-use Rattle.exr_wavelet.specs.Places.{matrix_of, Becomes}
+use Rattle.std.proofs.Common.{◌≡◌, ◌*◌, ◌/◌, ap, ◌∙◌, arith}
+use Rattle.exr_wavelet.specs.Level.{pairs_along, two_lines_of}
+use Rattle.exr_wavelet.specs.Places.{matrix_of}
 use Rattle.exr_wavelet.proofs.Placing.{becomes_then, becomes_as}
 use Rattle.exr_wavelet.proofs.Levels.{odd_column_in, lines_done, lines_more, level_even, level_odd}
 use Rattle.exr_wavelet.proofs.level.step_level.Goals as goal

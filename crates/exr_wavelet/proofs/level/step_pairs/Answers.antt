@@ -1,6 +1,5 @@
-use Rattle.std.proofs.Common.{◌≡◌, ℕ, ◌+◌, ◌*◌, ◌/◌, ◌<◌, ◌≤◌, length, ap, ◌∙◌, arith}
-use Rattle.std.proofs.lemmas.Bool.{le-ltb}
-use Rattle.exr_wavelet.specs.Places.{place_of, matrix_of, Becomes}
+use Rattle.std.proofs.Common.{◌≡◌, ◌+◌, ◌*◌, ◌/◌, ◌≤◌, ap, ◌∙◌, arith}
+use Rattle.exr_wavelet.specs.Places.{matrix_of}
 use Rattle.exr_wavelet.proofs.Placing.{becomes_same, becomes_then, becomes_as}
 use Rattle.exr_wavelet.proofs.Levels.{pair_put, pair_puts, done_before, along_none, along_more, along_all, part_fits}
 use Rattle.exr_wavelet.proofs.level.step_pairs.Goals as goal

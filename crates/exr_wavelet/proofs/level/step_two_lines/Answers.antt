@@ -1,5 +1,4 @@
-use Rattle.std.proofs.Common.{◌≡◌, ℕ, ◌+◌, ◌*◌, ◌/◌, ◌%◌, ◌<◌, ◌≤◌, length, arith}
-use Rattle.exr_wavelet.specs.Places.{matrix_of, Becomes}
+use Rattle.exr_wavelet.specs.Places.{matrix_of}
 use Rattle.exr_wavelet.specs.Level.{squares_along}
 use Rattle.exr_wavelet.proofs.Placing.{becomes_then, becomes_as}
 use Rattle.exr_wavelet.proofs.Levels.{odd_column_in, two_lines_done, two_lines_even}

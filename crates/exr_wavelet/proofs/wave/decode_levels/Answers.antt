@@ -1,4 +1,4 @@
-use Rattle.std.proofs.Common.{◌≡◌, ℕ, ◌+◌, ◌*◌, ◌/◌, ◌<◌, ◌≤◌, min, length, refl, arith}
+use Rattle.std.proofs.Common.{◌/◌, min, refl, arith}
 use Rattle.exr_wavelet.proofs.Waves.{reached_none, reached_more, decoding_none, decoding_more, decoding_all}
 use Rattle.exr_wavelet.proofs.wave.decode_levels.Goals as goal
 
@@ -14,7 +14,7 @@ levels-init c = record { some = omega arith; done = decoding_none c.args.words.n
 pub levels-preserved : goal.levels-preserved
 levels-preserved c = record {
   some = omega arith;
-  done = decoding_more c.args.words.now c.levels.words c.step_any_level.new.words c.args.grid c.args.max c.levels.p (c.levels.p / 2) (omega arith) refl c.levels.invariant.done c.step_any_level.ensures;
+  done = decoding_more c.args.words.now c.levels.words c.step_level.new.words c.args.grid c.args.max c.levels.p (c.levels.p / 2) (omega arith) refl c.levels.invariant.done c.step_level.ensures;
 }
 
 pub returns : goal.returns

@@ -1,4 +1,4 @@
-use Rattle.std.proofs.Common.{◌-◌, ◌*◌, ◌≤◌, min}
+use Rattle.std.proofs.Common.{◌-◌, ◌≤◌, min}
 use Rattle.exr_wavelet.proofs.Waves.{Reached, Decoding}
 use Rattle.exr_wavelet.proofs.wave.decode_levels.Given as goal
 

@@ -1,4 +1,4 @@
-use Rattle.std.proofs.Common.{◌≡◌, ℕ, ◌+◌, ◌*◌, ◌/◌, ◌<◌, ◌≤◌, min, length, arith}
+use Rattle.std.proofs.Common.{arith}
 use Rattle.exr_wavelet.proofs.Waves.{encoded_none, encoded_more, encoded_all}
 use Rattle.exr_wavelet.proofs.wave.encode_levels.Goals as goal
 
@@ -8,7 +8,7 @@ levels-init c = record { some = omega arith; done = encoded_none c.args.words.no
 pub levels-preserved : goal.levels-preserved
 levels-preserved c = record {
   some = omega arith;
-  done = encoded_more c.args.words.now c.levels.words c.step_any_level.new.words c.args.grid c.args.max c.levels.p (omega arith) c.levels.invariant.done c.step_any_level.ensures;
+  done = encoded_more c.args.words.now c.levels.words c.step_level.new.words c.args.grid c.args.max c.levels.p (omega arith) c.levels.invariant.done c.step_level.ensures;
 }
 
 pub returns : goal.returns

@@ -1,4 +1,4 @@
-use Rattle.std.proofs.Common.{◌-◌, ◌*◌, ◌≤◌}
+use Rattle.std.proofs.Common.{◌-◌, ◌≤◌}
 use Rattle.exr_wavelet.proofs.Waves.{Encoded}
 use Rattle.exr_wavelet.proofs.wave.encode_levels.Given as goal
 

@@ -1,6 +1,5 @@
-use Rattle.std.proofs.Common.{ℕ, ◌+◌, ◌*◌, ◌<◌, ◌≤◌, arith}
+use Rattle.std.proofs.Common.{◌+◌, ◌*◌, ◌≤◌, arith}
 use Rattle.std.proofs.Math.Nat.{mul-le-mul_left}
-use Rattle.exr_wavelet.specs.Places.{place_of}
 use Rattle.exr_wavelet.proofs.level.Grid.place.Goals as goal
 
 pub overflow_add-at : goal.overflow_add-at

@@ -1,0 +1,20 @@
+//! The kernels of Huffman blocks.
+
+use crate::checksum::add_words;
+use crate::front::number;
+use crate::stop::Stop;
+use std::alloc::Global;
+
+/// Unpacks a block so often, behind the number of its words.
+pub(crate) fn unpack(alloc: Global, bytes: &[u8], repeats: u32) -> Result<u64, Stop> {
+    let (words, block) = number(bytes)?;
+    if words == 0 || words > 1 << 25 {
+        return Err(Stop::Form);
+    }
+    let mut sum = 0;
+    for turn in 0..repeats {
+        let found = exr_huffman::unpack(alloc, block, words)?;
+        sum = add_words(sum, &found, turn, turn + 1 == repeats);
+    }
+    Ok(sum)
+}

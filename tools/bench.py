@@ -1,0 +1,221 @@
+#!/usr/bin/env python3
+"""Measures the kernels of the codecs: makes their inputs, builds the plain C twins of tools/bench (gcc -O2), runs twin and
+exr_bench in turn, round by round, and prints the table of docs/PERFORMANCE.md: the ratio of the least processor times.
+Both print a checksum of what they computed, and the two have to agree.
+
+Use: python3 tools/bench.py [ROUNDS [WORD]], at the top of the repository, after `rt ci exr_bench` has built the program;
+with a word only the kernels whose name begins with it.
+"""
+import heapq, math, os, random, struct, subprocess, sys, tempfile
+from collections import Counter
+
+ROUNDS = int(sys.argv[1]) if len(sys.argv) > 1 else 15
+WORD = sys.argv[2] if len(sys.argv) > 2 else ""
+PROGRAM = os.path.abspath("crates/exr_bench/out/exr_bench")
+TWINS = os.path.abspath("tools/bench")
+WIDE, HIGH, CHANNELS = 1920, 32, 4
+SECONDS = 0.2  # about how long one run takes
+
+
+# ---- inputs
+
+def smooth(x, y, channel):
+    """A smooth picture's value from 0 to 1."""
+    return 0.5 + 0.25 * math.sin(x / 210 + channel) + 0.2 * math.cos(y / 9 + x / 800 + channel)
+
+
+def picture_lines():
+    """Lines of four HALF channels, as a chunk has them: three smooth ones, and one that is 1 everywhere."""
+    out = bytearray()
+    for y in range(HIGH):
+        for channel in range(CHANNELS):
+            out += struct.pack(f"<{WIDE}e", *(smooth(x, y, channel) if channel else 1.0 for x in range(WIDE)))
+    return bytes(out)
+
+
+def plane(most, channel, wide=WIDE, high=HIGH):
+    """Words of a smooth picture with a little grain."""
+    grain = random.Random(channel)
+    return [min(most, int(most * smooth(x, y, channel)) + grain.randrange(8)) for y in range(high) for x in range(wide)]
+
+
+def wavelet(words, wide, high, small):
+    """The wavelet of a plane, as a list."""
+    def pair(a, b):
+        if small:
+            a, b = (a ^ 32768) - 32768, (b ^ 32768) - 32768
+            return (a + b >> 1) & 65535, (a - b) & 65535
+        a = (a + 32768) & 65535
+        return ((a + b >> 1) + (32768 if a < b else 0)) & 65535, (a - b) & 65535
+
+    out, p = list(words), 1
+    while 2 * p <= min(wide, high):
+        for y in range(0, high // (2 * p) * (2 * p), 2 * p):
+            for x in range(0, wide // (2 * p) * (2 * p), 2 * p):
+                i, right, below = y * wide + x, p, p * wide
+                a, b = pair(out[i], out[i + right])
+                c, d = pair(out[i + below], out[i + right + below])
+                out[i], out[i + below] = pair(a, c)
+                out[i + right], out[i + right + below] = pair(b, d)
+        if wide % (2 * p) >= p or high % (2 * p) >= p:
+            sys.exit("the planes here have no odd lines or columns")
+        p *= 2
+    return out
+
+
+def rle_packed(raw):
+    """The packed data of raw bytes."""
+    halves = raw[0::2] + raw[1::2]
+    bytes_ = halves[:1] + bytes((halves[k] - halves[k - 1] + 128) & 255 for k in range(1, len(halves)))
+    three = [bytes_[k] == bytes_[k + 1] == bytes_[k + 2] for k in range(len(bytes_) - 2)] + [False, False]
+    out, at = bytearray(), 0
+    while at < len(bytes_):
+        end = at + 1
+        if three[at]:
+            while end < len(bytes_) and bytes_[end] == bytes_[at] and end - at < 128:
+                end += 1
+            out += bytes((end - at - 1, bytes_[at]))
+        else:
+            while end < len(bytes_) and not three[end] and end - at < 127:
+                end += 1
+            out += bytes((256 - (end - at),)) + bytes_[at:end]
+        at = end
+    return bytes(out)
+
+
+def huffman_lengths(counts):
+    """The lengths of the codes by merging the two least weights."""
+    heap = [(count, symbol, (symbol,)) for symbol, count in counts.items()]
+    heapq.heapify(heap)
+    lengths = Counter()
+    while len(heap) > 1:
+        a, b = heapq.heappop(heap), heapq.heappop(heap)
+        for symbol in a[2] + b[2]:
+            lengths[symbol] += 1
+        heapq.heappush(heap, (a[0] + b[0], min(a[1], b[1]), a[2] + b[2]))
+    return lengths
+
+
+def bytes_of_bits(pieces):
+    """Bits, given as pairs of a number and its length, as bytes."""
+    out, window, have = bytearray(), 0, 0
+    for number, length in pieces:
+        window, have = window << length | number, have + length
+        while have >= 8:
+            have -= 8
+            out.append(window >> have & 255)
+        window &= (1 << have) - 1
+    return bytes(out + bytes((window << 8 - have & 255,)) if have else out)
+
+
+def huffman_block(words):
+    """The Huffman block of words."""
+    counts = Counter(words)
+    least, run = min(counts), max(counts) + 1
+    lengths = huffman_lengths({**counts, run: 1})
+    codes, code = {}, 0
+    for length in range(max(lengths.values()), 0, -1):
+        for symbol in sorted(s for s in lengths if lengths[s] == length):
+            codes[symbol] = (code, length)
+            code += 1
+        code >>= 1
+    table, symbol = [], least
+    while symbol <= run:
+        zeros = 0
+        while zeros < 261 and symbol + zeros not in lengths:
+            zeros += 1
+        if zeros >= 6:
+            table += [(63, 6), (zeros - 6, 8)]
+        elif zeros >= 2:
+            table.append((57 + zeros, 6))
+        else:
+            table.append((lengths[symbol], 6))
+        symbol += max(zeros, 1)
+    data, at = [], 0
+    while at < len(words):
+        end = at + 1
+        while end < len(words) and words[end] == words[at] and end - at < 256:
+            end += 1
+        more, (code, length) = end - at - 1, codes[words[at]]
+        if length + codes[run][1] + 8 < length * more:
+            data += [(code, length), codes[run], (more, 8)]
+        else:
+            data += [(code, length)] * (more + 1)
+        at = end
+    table, bits = bytes_of_bits(table), sum(length for _, length in data)
+    return struct.pack("<5I", least, run, len(table), bits, 0) + table + bytes_of_bits(data)
+
+
+def cases():
+    """Each kernel with the name of an input, its bytes, and how many raw bytes it stands for."""
+    raw_bytes, noise = 2 * WIDE * HIGH * CHANNELS, random.Random(1)
+    raws = [("a picture's lines", picture_lines()), ("noise", noise.randbytes(raw_bytes)),
+            ("one value", struct.pack("<e", 1.0) * (raw_bytes // 2))]
+    for name, raw in raws:
+        yield "rle-unpack", name, struct.pack("<I", len(raw)) + rle_packed(raw), len(raw)
+    for name, raw in raws:
+        yield "rle-pack", name, raw, len(raw)
+    for kernel in ("wavelet-encode", "wavelet-decode"):
+        for name, most in (("words below 16384", 16383), ("any words", 65535)):
+            words = plane(most, 1)
+            if kernel == "wavelet-decode":
+                words = wavelet(words, WIDE, HIGH, most < 16384)
+            yield kernel, name, struct.pack(f"<3I{len(words)}H", WIDE, HIGH, most, *words), 2 * len(words)
+    planes = [word for c in range(CHANNELS) for word in wavelet(plane(16383, c), WIDE, HIGH, True)]
+    for name, words in (("a picture behind the wavelet", planes),
+                        ("noise", [noise.randrange(65536) for _ in planes]), ("one value", [7] * len(planes)),
+                        ("4,096 words of a picture", wavelet(plane(16383, 1, 64, 64), 64, 64, True))):
+        yield "huffman-unpack", name, struct.pack("<I", len(words)) + huffman_block(words), 2 * len(words)
+
+
+# ---- runs
+
+def timed(words):
+    """The processor time of a run and what it prints."""
+    child = subprocess.Popen(words, stdout=subprocess.PIPE)
+    printed = child.stdout.read()
+    _, status, usage = os.wait4(child.pid, 0)
+    child.returncode = os.waitstatus_to_exitcode(status)
+    if status != 0:
+        sys.exit(f"{' '.join(words)}: status {child.returncode}")
+    return usage.ru_utime + usage.ru_stime, printed
+
+
+def least_times(programs, words):
+    """The least times of some programs by the rounds, and what they print, which has to be the same."""
+    least = [math.inf] * len(programs)
+    for _ in range(ROUNDS):
+        printed = []
+        for k, program in enumerate(programs):
+            took, text = timed([program] + words)
+            least[k] = min(least[k], took)
+            printed.append(text)
+        if len(set(printed)) != 1:
+            sys.exit(f"{' '.join(words)}: the programs print {printed}")
+    return least
+
+
+def main():
+    print("| kernel | input | MB/s of raw data | ratio to the C twin |")
+    print("|---|---|---|---|")
+    with tempfile.TemporaryDirectory() as folder:
+        twins = {}
+        for name in ("rle", "wavelet", "huffman"):
+            twins[name] = os.path.join(folder, name)
+            subprocess.run(["gcc", "-O2", "-o", twins[name], os.path.join(TWINS, name + ".c")], check=True)
+        source = os.path.join(folder, "input")
+        for kernel, name, data, raw in cases():
+            if not kernel.startswith(WORD):
+                continue
+            with open(source, "wb") as file:
+                file.write(data)
+            programs = [PROGRAM, twins[kernel.split("-")[0]]]
+            repeats = max(1, int(10 * SECONDS / timed([programs[1], kernel, source, "10"])[0]))
+            start = least_times(programs, [kernel, source, "0"])
+            times = least_times(programs, [kernel, source, str(repeats)])
+            ours, theirs = (time - begin for time, begin in zip(times, start))
+            print(f"| {kernel} | {name} | {raw * repeats / ours / 1e6:,.0f} | {ours / theirs:.2f} |", flush=True)
+
+
+if __name__ == "__main__":
+    main()
