@@ -1,1 +1,5 @@
 pub mod Merging
+pub mod Order
+pub mod Queues
+pub mod Sorted
+pub mod Undone
