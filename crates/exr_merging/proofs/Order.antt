@@ -195,6 +195,12 @@ length-within (suc n) (a ∷ b ∷ trees) some =
     let l = length-insert_tree (node a b) trees in
     omega (arith, length-within n (insert_tree (node a b) trees) (omega (arith, l)), l)
 
+pub length-within-le : (n : ℕ) (trees : List Tree) → length (merged_within n trees) ≤ length trees
+length-within-le zero trees = omega arith
+length-within-le (suc n) [] = omega arith
+length-within-le (suc n) (a ∷ []) = omega arith
+length-within-le (suc n) (a ∷ b ∷ trees) = omega (arith, length-within-le n (insert_tree (node a b) trees), length-insert_tree (node a b) trees)
+
 pub within_one : (n : ℕ) (trees : List Tree) → length trees ≤ n + 1 → length (merged_within n trees) ≤ 1
 within_one zero trees few = omega arith
 within_one (suc n) [] few = omega arith

@@ -1,13 +1,13 @@
 -- Undoing the mergings from the last one on gives each tree that is left the depth of its root.
-use Rattle.std.proofs.Common.{◌≡◌, ◌≢◌, ℕ, zero, suc, ◌+◌, ◌-◌, ◌^◌, ◌<◌, ◌≤◌, Bool, true, false, cond, eqb, ltb, List, [], ◌∷◌, ◌++◌, length, get_or, set, min, refl, sym, ap, ◌∙◌, subst, inl, inr, arith}
+use Rattle.std.proofs.Common.{◌≡◌, ◌≢◌, ℕ, zero, suc, ◌+◌, ◌-◌, ◌^◌, ◌<◌, ◌≤◌, Bool, true, false, cond, eqb, ltb, List, [], ◌∷◌, ◌++◌, length, get_or, set, min, refl, sym, ap, ap₂, ◌∙◌, subst, inl, inr, arith}
 use Rattle.std.specs.List.{sum_by, sum, count_by}
 use Rattle.std.proofs.lemmas.Bool.{cases_lt, cases_eq, cond_both, eq-eqb, ne_eqb, eqb-true, eqb-false}
 use Rattle.std.proofs.lemmas.List.{length-set, get_or-set_same, get_or-set_other, get_or_past, ext_get_or}
 use Rattle.exr_merging.specs.Trees.{Tree, leaf, node, tree_weight, least_entry, comes_first, insert_tree, leaves_from, merged_within, depth_of, depth_in, values_below, merged_lengths}
-use Rattle.exr_merging.specs.Steps.{sum_trees, IsMergeOf}
+use Rattle.exr_merging.specs.Steps.{sum_trees, IsMergeOf, AreMerges}
 use Rattle.exr_merging.specs.declared.root.Merge.{Merge}
 use Rattle.exr_merging.proofs.Merging.{insert_sum, merged_sum, times_in, at_least, leaves_times, length-leaves, length-values_below, get_or-values_below, length-merged_lengths, are_complete}
-use Rattle.exr_merging.proofs.Order.{times_least, AreReady, IsApart, ready_leaves, ready_within, within_more, within_same, within_one}
+use Rattle.exr_merging.proofs.Order.{times_least, AreReady, IsApart, ready_leaves, ready_within, within_more, within_same, within_one, length-within-le}
 
 -- the depth of an entry in a tree whose root's depth stands at its least entry
 abbrev pub depth_by : List ℕ → ℕ → Tree → ℕ
@@ -30,21 +30,26 @@ depth_by_set depths i value k (t ∷ trees) none =
     rw (get_or-set_other depths i (least_entry t) value 0 apart) (ap (λ n. depth_of (get_or depths (least_entry t) 0) t k + n) (depth_by_set depths i value k trees (omega arith)))
 
 -- one merging undone
-pub undo : (depths : List ℕ) (a b : Tree) (trees last : List Tree) → least_entry a < length depths → least_entry b < length depths → ((k : ℕ) → sum_trees (times_in k) (a ∷ b ∷ trees) ≤ 1)
+pub undo : (depths : List ℕ) (i j : ℕ) (a b : Tree) (trees last : List Tree) → i ≡ least_entry a → j ≡ least_entry b → i < length depths → j < length depths → ((k : ℕ) → sum_trees (times_in k) (a ∷ b ∷ trees) ≤ 1)
     → AreDepths depths (insert_tree (node a b) trees) last
-    → AreDepths (set (set depths (least_entry a) (get_or depths (min (least_entry a) (least_entry b)) 0 + 1)) (least_entry b) (get_or depths (min (least_entry a) (least_entry b)) 0 + 1)) (a ∷ b ∷ trees) last
-undo depths a b trees last a_within b_within few known k =
-    let i = least_entry a in
-    let j = least_entry b in
+    → AreDepths (set (set depths i (get_or depths (min i j) 0 + 1)) j (get_or depths (min i j) 0 + 1)) (a ∷ b ∷ trees) last
+undo depths i j a b trees last i_is j_is i_within j_within few known k =
     let d = get_or depths (min i j) 0 in
     let one = set depths i (d + 1) in
     let two = set one j (d + 1) in
-    let apart : i ≢ j = λ same. (let some : 0 < times_in i b = rw same (times_least b) in omega (arith, few i, times_least a)) in
-    let at_a : get_or two i 0 ≡ d + 1 = get_or-set_other one j i (d + 1) 0 apart ∙ get_or-set_same depths i (d + 1) 0 a_within in
-    let at_b : get_or two j 0 ≡ d + 1 = get_or-set_same one j (d + 1) 0 (omega (arith, length-set depths i (d + 1))) in
+    let in_a : 0 < times_in i a = rw i_is (times_least a) in
+    let in_b : 0 < times_in j b = rw j_is (times_least b) in
+    let apart : i ≢ j = λ same. (let also : 0 < times_in i b = rw same in_b in omega (arith, few i, in_a)) in
+    let at_a : get_or two (least_entry a) 0 ≡ d + 1 = ap (λ m. get_or two m 0) (sym i_is) ∙ get_or-set_other one j i (d + 1) 0 apart ∙ get_or-set_same depths i (d + 1) 0 i_within in
+    let at_b : get_or two (least_entry b) 0 ≡ d + 1 = ap (λ m. get_or two m 0) (sym j_is) ∙ get_or-set_same one j (d + 1) 0 (omega (arith, length-set depths i (d + 1))) in
     let others : sum_trees (depth_by two k) trees ≡ sum_trees (depth_by depths k) trees =
-    depth_by_set one j (d + 1) k trees (omega (arith, few j, times_least b)) ∙ depth_by_set depths i (d + 1) k trees (omega (arith, few i, times_least a)) in
-    rw (at_a, at_b, others) (omega (arith, known k, insert_sum (depth_by depths k) (node a b) trees))
+    depth_by_set one j (d + 1) k trees (omega (arith, few j, in_b)) ∙ depth_by_set depths i (d + 1) k trees (omega (arith, few i, in_a)) in
+    let root : get_or depths (least_entry (node a b)) 0 ≡ d = ap₂ (λ m n. get_or depths (min m n) 0) (sym i_is) (sym j_is) in
+    let merged : depth_by depths k (node a b) ≡ depth_of (d + 1) a k + depth_of (d + 1) b k = ap (λ e. depth_of e (node a b) k) root in
+    let by_a : depth_by two k a ≡ depth_of (d + 1) a k = ap (λ e. depth_of e a k) at_a in
+    let by_b : depth_by two k b ≡ depth_of (d + 1) b k = ap (λ e. depth_of e b k) at_b in
+    let sums : depth_by depths k (node a b) + sum_trees (depth_by depths k) trees ≡ depth_in last k = sym (insert_sum (depth_by depths k) (node a b) trees) ∙ known k in
+    omega (arith, by_a, by_b, others, merged, sums)
 
 -- ---- entries that a merging names
 
@@ -85,7 +90,7 @@ pub undo_step : (trees last : List Tree) (merge : Merge) (depths : List ℕ) →
 undo_step [] last merge depths is few first second known = absurd is
 undo_step (a ∷ []) last merge depths is few first second known = absurd is
 undo_step (a ∷ b ∷ trees) last merge depths is few first second known =
-    rw (is.0, is.1) (undo depths a b trees last (rw (← is.0) first) (rw (← is.1) second) few known)
+    undo depths merge.first merge.second a b trees last is.0 is.1 first second few known
 
 -- the depth that is written is one more than that of a tree that holds an entry
 deep_in : (d k : ℕ) (a b : Tree) → times_in k (node a b) ≡ 1 → d + 1 ≤ depth_of d (node a b) k
@@ -128,7 +133,7 @@ leaf_depth depths (suc j) entry (weight ∷ weights) none =
     let shift : k ≡ (entry + 1) + j = omega arith in
     let h : sum_trees (depth_by depths k) others ≡ get_or depths k 0 = subst (λ (i : ℕ). sum_trees (depth_by depths i) others ≡ get_or depths i 0) (sym shift) (leaf_depth depths j (entry + 1) weights (λ zero_at. subst (λ (i : ℕ). get_or depths i 0 ≡ 0) shift (none zero_at))) in
     cond_both (eqb weight 0) others (insert_tree (leaf weight entry) others) (λ (ts : List Tree). sum_trees (depth_by depths k) ts ≡ get_or depths k 0) (λ e. h)
-    (λ e. insert_sum (depth_by depths k) (leaf weight entry) others ∙ rw (h, ne_eqb k entry (λ f. omega arith)) refl)
+    (λ e. insert_sum (depth_by depths k) (leaf weight entry) others ∙ rw (h, ne_eqb k entry (λ f. omega arith)) (omega arith))
 
 -- the trees that are left at the end
 pub last_of : (weights : List ℕ) (n : ℕ) → length (merged_within n (leaves_from 0 weights)) ≤ 1 → merged_within n (leaves_from 0 weights) ≡ merged_within (length weights) (leaves_from 0 weights)
@@ -145,3 +150,54 @@ all_undone weights depths n few size none known =
     let shift : 0 + k ≡ k = omega arith in
     let at : sum_trees (depth_by depths k) (leaves_from 0 weights) ≡ get_or depths k 0 = rw shift at (leaf_depth depths k 0 weights (λ zero_at. rw shift (none k zero_at))) in
     sym at ∙ known k ∙ sym (lengths_at weights n k few (omega arith)))
+
+-- ---- one turn of the loop
+
+merge_of_two : (trees : List Tree) (merge : Merge) → IsMergeOf trees merge → 2 ≤ length trees
+merge_of_two [] merge is = absurd is
+merge_of_two (a ∷ []) merge is = absurd is
+merge_of_two (a ∷ b ∷ trees) merge is = omega arith
+
+module _ (weights : List ℕ) (merges : List Merge) (d : Merge) (depths : List ℕ) (left : ℕ) (are : AreMerges (leaves_from 0 weights) merges) (some : 0 < left) (few : left ≤ length merges)
+    (size : length depths ≡ length weights) (known : AreDepths depths (merged_within left (leaves_from 0 weights)) (merged_within (length merges) (leaves_from 0 weights))) where
+  abbrev trees : List Tree
+  trees = merged_within (left - 1) (leaves_from 0 weights)
+
+  abbrev last : List Tree
+  last = merged_within (length merges) (leaves_from 0 weights)
+
+  abbrev merge : Merge
+  merge = get_or merges (left - 1) d
+
+  is : IsMergeOf trees merge
+  is = are.each (left - 1) d (omega arith)
+
+  once : (k : ℕ) → sum_trees (times_in k) trees ≤ 1
+  once = (ready_within (left - 1) (leaves_from 0 weights) (ready_leaves 0 weights)).apart
+
+  before_it : AreDepths depths (merged_within 1 trees) last
+  before_it =
+      let back : left - 1 + 1 ≡ left = omega arith in
+      let e : merged_within left (leaves_from 0 weights) ≡ merged_within 1 trees = ap (λ n. merged_within n (leaves_from 0 weights)) (sym back) ∙ within_more (left - 1) 1 (leaves_from 0 weights) in
+      subst (λ (ts : List Tree). AreDepths depths ts last) e known
+
+  weights_there : (get_or weights merge.first 0 ≢ 0) × (get_or weights merge.second 0 ≢ 0) × (get_or weights (min merge.first merge.second) 0 ≢ 0)
+  weights_there =
+      let there = merge_entries trees merge is in
+      (entry_has_weight weights (left - 1) merge.first there.0, entry_has_weight weights (left - 1) merge.second there.1, entry_has_weight weights (left - 1) (min merge.first merge.second) there.2)
+
+  pub turn_within : (merge.first < length weights) × (merge.second < length weights) × (min merge.first merge.second < length weights)
+  turn_within = (entry_within weights merge.first weights_there.0, entry_within weights merge.second weights_there.1, entry_within weights (min merge.first merge.second) weights_there.2)
+
+  pub turn_small : sum weights ≤ 2 ^ 25 + 1 → get_or depths (min merge.first merge.second) 0 < 51
+  turn_small light =
+      let two : 2 ≤ count_by (λ w. ltb 0 w) weights = omega (arith, merge_of_two trees merge is, length-within-le (left - 1) (leaves_from 0 weights), (length-leaves 0 weights).0) in
+      let k = min merge.first merge.second in
+      omega (arith, depth_small trees last merge depths is once before_it, lengths_at weights (length merges) k are.all turn_within.2, (are_complete weights two light).1 k)
+
+  pub turn_known : AreDepths (set (set depths merge.first (get_or depths (min merge.first merge.second) 0 + 1)) merge.second (get_or depths (min merge.first merge.second) 0 + 1)) trees last
+  turn_known = undo_step trees last merge depths is once (omega (arith, turn_within.0, size)) (omega (arith, turn_within.1, size)) before_it
+
+  pub turn_none : (value k : ℕ) → get_or weights k 0 ≡ 0 → get_or depths k 0 ≡ 0 → get_or (set (set depths merge.first value) merge.second value) k 0 ≡ 0
+  turn_none value k none known_none =
+      get_or-set_other (set depths merge.first value) merge.second k value 0 (λ same. weights_there.1 (ap (λ m. get_or weights m 0) (sym same) ∙ none)) ∙ get_or-set_other depths merge.first k value 0 (λ same. weights_there.0 (ap (λ m. get_or weights m 0) (sym same) ∙ none)) ∙ known_none
