@@ -1,14 +1,12 @@
 -- Two queues in order hold the trees that are left: the leaves, and the merged trees as they were made.
-use Rattle.std.proofs.Common.{◌≡◌, ◌≢◌, ℕ, zero, suc, ◌+◌, ◌^◌, ◌<◌, ◌≤◌, Bool, true, false, cond, List, [], ◌∷◌, ◌++◌, length, map, min, refl, sym, ap, ◌∙◌, subst, inl, inr, ◌⊎◌, arith}
-use Rattle.std.specs.List.{sum}
-use Rattle.std.proofs.lemmas.Bool.{cond_both, cond-true, cond-false}
+use Rattle.std.proofs.Common.{◌≡◌, ℕ, ◌+◌, ◌<◌, ◌≤◌, true, false, List, [], ◌∷◌, ◌++◌, map, min, refl, sym, ap, ◌∙◌, subst, inl, inr, arith}
+use Rattle.std.proofs.lemmas.Bool.{cond-false}
 use Rattle.std.proofs.lemmas.List.{map_push}
 use Rattle.exr_merging.specs.declared.root.Root.{Root}
-use Rattle.exr_merging.specs.declared.root.Merge.{Merge}
-use Rattle.exr_merging.specs.Trees.{Tree, leaf, node, tree_weight, least_entry, comes_first, insert_tree, leaves_from, merged_within}
-use Rattle.exr_merging.specs.Steps.{root_of, root_before, sum_trees, Takes, IsFirst, IsNotBehind}
+use Rattle.exr_merging.specs.Trees.{Tree, leaf, node, tree_weight, least_entry, comes_first, insert_tree}
+use Rattle.exr_merging.specs.Steps.{root_of, sum_trees, Takes, IsFirst, IsNotBehind}
 use Rattle.exr_merging.proofs.Merging.{insert_sum, times_in}
-use Rattle.exr_merging.proofs.Order.{comes, comes-trans, comes-asym, comes-total, comes-le, comes-lt, comes-pairs, IsBefore, AreStrict, IsApart, AreSome, AreReady, before_weaker, before_insert, insert_front, insert_swap, times_least, apart_from, ready_merged}
+use Rattle.exr_merging.proofs.Order.{comes-asym, comes-total, comes-le, comes-lt, comes-pairs, IsBefore, AreStrict, IsApart, AreReady, before_weaker, before_insert, insert_front, insert_swap, times_least, apart_from}
 
 -- ---- two queues as one
 

@@ -1,12 +1,12 @@
 -- Roots in order that are those of the leaves, in any order, are the leaves in order.
-use Rattle.std.proofs.Common.{◌≡◌, ◌≢◌, ℕ, zero, suc, ◌+◌, ◌<◌, ◌≤◌, Bool, true, false, cond, eqb, ltb, List, [], ◌∷◌, ◌++◌, length, map, take, get_or, refl, sym, ap, ◌∙◌, ap₂, subst, inl, inr, arith}
+use Rattle.std.proofs.Common.{◌≡◌, ◌≢◌, ℕ, suc, ◌+◌, ◌<◌, false, cond, eqb, List, [], ◌∷◌, ◌++◌, length, map, take, get_or, refl, ap, ◌∙◌, ap₂, subst, inl, inr, arith}
 use Rattle.std.specs.List.{sum_by}
-use Rattle.std.proofs.lemmas.Bool.{cases_Bool, cond_both, eq-eqb, ne_eqb, eqb-true, eqb-false}
+use Rattle.std.proofs.lemmas.Bool.{cases_Bool, cond_both, eq-eqb, ne_eqb}
 use Rattle.std.proofs.lemmas.Bool.Decides.{nat_tests}
 use Rattle.std.proofs.lemmas.List.{length-take, take_more}
 use Rattle.std.proofs.lemmas.List.Sums.{sum_by-cons, sum_by_push}
 use Rattle.exr_merging.specs.declared.root.Root.{Root}
-use Rattle.exr_merging.specs.Trees.{Tree, leaf, node, tree_weight, least_entry, comes_first, insert_tree, leaves_from}
+use Rattle.exr_merging.specs.Trees.{Tree, leaf, tree_weight, least_entry, comes_first, insert_tree, leaves_from}
 use Rattle.exr_merging.specs.Steps.{root_of, leaf_of, root_before, sum_trees, AreAmong}
 use Rattle.exr_merging.proofs.Merging.{insert_sum}
 use Rattle.exr_merging.proofs.Order.{comes-asym, comes-same, IsBefore, AreStrict}

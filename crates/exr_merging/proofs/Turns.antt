@@ -1,15 +1,14 @@
 -- One turn of the merging loop: two trees are taken from the queues, and the merged tree joins them.
-use Rattle.std.proofs.Common.{◌≡◌, ℕ, zero, suc, ◌+◌, ◌-◌, ◌^◌, ◌<◌, ◌≤◌, List, [], ◌∷◌, ◌++◌, length, map, drop, get_or, min, refl, sym, ap, ap₂, ◌∙◌, subst, inl, inr, arith}
-use Rattle.std.specs.List.{sum}
+use Rattle.std.proofs.Common.{◌≡◌, ℕ, ◌+◌, ◌^◌, ◌<◌, ◌≤◌, List, [], ◌∷◌, ◌++◌, length, map, drop, get_or, refl, sym, ap, ap₂, ◌∙◌, subst, inl, inr, arith}
 use Rattle.std.proofs.lemmas.Bool.{cases_eq}
 use Rattle.std.proofs.lemmas.List.{length-map, length_push, get_or_append_left, get_or_push, drop-append-le, map_push}
 use Rattle.exr_merging.specs.declared.root.Root.{Root}
 use Rattle.exr_merging.specs.declared.root.Merge.{Merge}
-use Rattle.exr_merging.specs.Trees.{Tree, leaf, node, tree_weight, least_entry, insert_tree, leaves_from, merged_within}
+use Rattle.exr_merging.specs.Trees.{Tree, node, tree_weight, insert_tree, leaves_from, merged_within}
 use Rattle.exr_merging.specs.Steps.{root_of, leaf_of, merged_root, sum_trees, Takes, IsMergeOf, AreLeavesOf, AreMerges}
-use Rattle.exr_merging.proofs.Merging.{merged_sum, leaves_weight, times_in}
+use Rattle.exr_merging.proofs.Merging.{merged_sum, leaves_weight}
 use Rattle.exr_merging.proofs.Order.{AreReady, ready_leaves, ready_within, within_more, within_one}
-use Rattle.exr_merging.proofs.Queues.{AreQueues, IsTaken, take_one, push_merged, first_queues}
+use Rattle.exr_merging.proofs.Queues.{AreQueues, take_one, push_merged, first_queues}
 
 -- ---- the leaves
 

@@ -1,13 +1,13 @@
 -- Undoing the mergings from the last one on gives each tree that is left the depth of its root.
-use Rattle.std.proofs.Common.{◌≡◌, ◌≢◌, ℕ, zero, suc, ◌+◌, ◌-◌, ◌^◌, ◌<◌, ◌≤◌, Bool, true, false, cond, eqb, ltb, List, [], ◌∷◌, ◌++◌, length, get_or, set, min, refl, sym, ap, ap₂, ◌∙◌, subst, inl, inr, arith}
-use Rattle.std.specs.List.{sum_by, sum, count_by}
-use Rattle.std.proofs.lemmas.Bool.{cases_lt, cases_eq, cond_both, eq-eqb, ne_eqb, eqb-true, eqb-false}
+use Rattle.std.proofs.Common.{◌≡◌, ◌≢◌, ℕ, zero, suc, ◌+◌, ◌-◌, ◌^◌, ◌<◌, ◌≤◌, eqb, ltb, List, [], ◌∷◌, length, get_or, set, min, refl, sym, ap, ap₂, ◌∙◌, subst, inl, inr, arith}
+use Rattle.std.specs.List.{sum, count_by}
+use Rattle.std.proofs.lemmas.Bool.{cases_lt, cases_eq, cond_both, eq-eqb, ne_eqb, eqb-true}
 use Rattle.std.proofs.lemmas.List.{length-set, get_or-set_same, get_or-set_other, get_or_past, ext_get_or}
-use Rattle.exr_merging.specs.Trees.{Tree, leaf, node, tree_weight, least_entry, comes_first, insert_tree, leaves_from, merged_within, depth_of, depth_in, values_below, merged_lengths}
+use Rattle.exr_merging.specs.Trees.{Tree, leaf, node, least_entry, insert_tree, leaves_from, merged_within, depth_of, depth_in, merged_lengths}
 use Rattle.exr_merging.specs.Steps.{sum_trees, IsMergeOf, AreMerges}
 use Rattle.exr_merging.specs.declared.root.Merge.{Merge}
-use Rattle.exr_merging.proofs.Merging.{insert_sum, merged_sum, times_in, at_least, leaves_times, length-leaves, length-values_below, get_or-values_below, length-merged_lengths, are_complete}
-use Rattle.exr_merging.proofs.Order.{times_least, AreReady, IsApart, ready_leaves, ready_within, within_more, within_same, within_one, length-within-le}
+use Rattle.exr_merging.proofs.Merging.{insert_sum, merged_sum, times_in, at_least, leaves_times, length-leaves, get_or-values_below, length-merged_lengths, are_complete}
+use Rattle.exr_merging.proofs.Order.{times_least, ready_leaves, ready_within, within_more, within_same, within_one, length-within-le}
 
 -- the depth of an entry in a tree whose root's depth stands at its least entry
 abbrev pub depth_by : List ℕ → ℕ → Tree → ℕ

@@ -4,7 +4,7 @@ use Rattle.std.specs.Prelude.{◌≡◌, ℕ, ◌+◌, ◌^◌, ◌<◌, ◌≤�
 use Rattle.std.specs.List.{sum_by}
 use Rattle.exr_merging.specs.declared.root.Root.{Root}
 use Rattle.exr_merging.specs.declared.root.Merge.{Merge}
-use Rattle.exr_merging.specs.Trees.{Tree, leaf, node, tree_weight, least_entry, leaves_from, merged_within}
+use Rattle.exr_merging.specs.Trees.{Tree, leaf, tree_weight, least_entry, leaves_from, merged_within}
 
 -- a tree's weight and least entry (own)
 abbrev pub root_of : Tree → Root

@@ -1,9 +1,9 @@
-use Rattle.std.proofs.Common.{◌≡◌, ℕ, ◌+◌, ◌-◌, ◌*◌, ◌<◌, ◌≤◌, List, [], ◌∷◌, ◌++◌, length, map, drop, get_or, refl, sym, ap, ◌∙◌, subst, arith}
+use Rattle.std.proofs.Common.{◌≡◌, ℕ, ◌+◌, ◌≤◌, List, [], ◌∷◌, ◌++◌, length, map, drop, refl, ap, subst, arith}
 use Rattle.std.proofs.lemmas.List.{length_push}
 use Rattle.exr_merging.specs.declared.root.Root.{Root}
 use Rattle.exr_merging.specs.declared.root.Merge.{Merge}
-use Rattle.exr_merging.specs.Trees.{Tree, merged_within}
-use Rattle.exr_merging.specs.Steps.{leaf_of, merged_root, Takes, IsMergeOf, AreLeavesOf}
+use Rattle.exr_merging.specs.Trees.{merged_within}
+use Rattle.exr_merging.specs.Steps.{leaf_of, merged_root, Takes, AreLeavesOf}
 use Rattle.exr_merging.proofs.Queues.{AreQueues}
 use Rattle.exr_merging.proofs.Turns.{IsTurn, leaves_ready, queues_begin, turn_of, merge_of, turn_weight, turn_merge, turn_queues, each_more, all_merged, queue_more}
 use Rattle.exr_merging.proofs.merges.merges_of.Goals as goal
