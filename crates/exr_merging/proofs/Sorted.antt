@@ -1,13 +1,13 @@
 -- Roots in order that are those of the leaves, in any order, are the leaves in order.
-use Rattle.std.proofs.Common.{◌≡◌, ◌≢◌, ℕ, suc, ◌+◌, ◌<◌, false, cond, eqb, List, [], ◌∷◌, ◌++◌, length, map, take, get_or, refl, ap, ◌∙◌, ap₂, subst, inl, inr, arith}
+use Rattle.std.proofs.Common.{◌≡◌, ℕ, suc, ◌+◌, ◌<◌, false, cond, eqb, List, [], ◌∷◌, ◌++◌, length, map, take, get_or, refl, ap, ◌∙◌, ap₂, subst, inl, inr, arith}
 use Rattle.std.specs.List.{sum_by}
-use Rattle.std.proofs.lemmas.Bool.{cases_Bool, cond_both, eq-eqb, ne_eqb}
+use Rattle.std.proofs.lemmas.Bool.{cases_Bool, cond_both}
 use Rattle.std.proofs.lemmas.Bool.Decides.{nat_tests}
 use Rattle.std.proofs.lemmas.List.{length-take, take_more}
 use Rattle.std.proofs.lemmas.List.Sums.{sum_by-cons, sum_by_push}
 use Rattle.exr_merging.specs.declared.root.Root.{Root}
 use Rattle.exr_merging.specs.Trees.{Tree, leaf, tree_weight, least_entry, comes_first, insert_tree, leaves_from}
-use Rattle.exr_merging.specs.Steps.{root_of, leaf_of, root_before, sum_trees, AreAmong}
+use Rattle.exr_merging.specs.Steps.{root_of, leaf_of, root_before, with_entry, sum_trees, AreAmong}
 use Rattle.exr_merging.proofs.Merging.{insert_sum}
 use Rattle.exr_merging.proofs.Order.{comes-asym, comes-same, IsBefore, AreStrict}
 
@@ -122,20 +122,15 @@ leaves_push f entry (first ∷ weights) weight =
       | inr e ↦ rw e (insert_sum f here more ∙ omega (arith, h, insert_sum f here others))
     ])
 
--- one entry more
-pub among_more : (roots : List Root) (weights : List ℕ) (k : ℕ) → k < length weights → AreAmong roots (leaves_from 0 (take k weights)) → get_or weights k 0 ≢ 0
-    → AreAmong (roots ++ (let r : Root = record { weight = get_or weights k 0; least = k } in r) ∷ []) (leaves_from 0 (take (k + 1) weights))
-among_more roots weights k within known some f =
+-- one entry more, where it has a weight
+pub among_more : (roots : List Root) (weights : List ℕ) (k : ℕ) → k < length weights → AreAmong roots (leaves_from 0 (take k weights)) → AreAmong (with_entry roots k (get_or weights k 0)) (leaves_from 0 (take (k + 1) weights))
+among_more roots weights k within known f =
     let w = get_or weights k 0 in
-    let root : Root = record { weight = w; least = k } in
+    let root = root_of (leaf w k) in
     let len : 0 + length (take k weights) ≡ k = rw length-take (omega arith) in
     let push = leaves_push (λ t. f (root_of t)) 0 (take k weights) w in
-    let added : cond (eqb w 0) 0 (f (root_of (leaf w (0 + length (take k weights))))) ≡ f root = rw (ne_eqb w 0 some, len) refl in
-    rw (take_more weights k 0 within) (omega (arith, sum_by_push f roots root, known f, push, added))
-
-pub among_same : (roots : List Root) (weights : List ℕ) (k : ℕ) → k < length weights → AreAmong roots (leaves_from 0 (take k weights)) → get_or weights k 0 ≡ 0 → AreAmong roots (leaves_from 0 (take (k + 1) weights))
-among_same roots weights k within known none f =
-    let w = get_or weights k 0 in
-    let push = leaves_push (λ t. f (root_of t)) 0 (take k weights) w in
-    let added : cond (eqb w 0) 0 (f (root_of (leaf w (0 + length (take k weights))))) ≡ 0 = rw (eq-eqb w 0 none) refl in
-    rw (take_more weights k 0 within) (omega (arith, known f, push, added))
+    let added : cond (eqb w 0) 0 (f (root_of (leaf w (0 + length (take k weights))))) ≡ cond (eqb w 0) 0 (f root) = rw len refl in
+    rw (take_more weights k 0 within)
+    (cond_both (eqb w 0) roots (roots ++ root ∷ []) (λ (rs : List Root). sum_by f rs ≡ sum_trees (λ t. f (root_of t)) (leaves_from 0 (take k weights ++ w ∷ [])))
+    (λ e. let none : cond (eqb w 0) 0 (f root) ≡ 0 = rw e refl in omega (arith, known f, push, added, none))
+    (λ e. let one : cond (eqb w 0) 0 (f root) ≡ f root = rw e refl in omega (arith, sum_by_push f roots root, known f, push, added, one)))

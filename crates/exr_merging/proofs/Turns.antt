@@ -5,7 +5,7 @@ use Rattle.std.proofs.lemmas.List.{length-map, length_push, get_or_append_left, 
 use Rattle.exr_merging.specs.declared.root.Root.{Root}
 use Rattle.exr_merging.specs.declared.root.Merge.{Merge}
 use Rattle.exr_merging.specs.Trees.{Tree, node, tree_weight, insert_tree, leaves_from, merged_within}
-use Rattle.exr_merging.specs.Steps.{root_of, leaf_of, merged_root, sum_trees, Takes, IsMergeOf, AreLeavesOf, AreMerges}
+use Rattle.exr_merging.specs.Steps.{root_of, leaf_of, merge_of, merged_root, sum_trees, Takes, IsMergeOf, AreLeavesOf, AreMerges}
 use Rattle.exr_merging.proofs.Merging.{merged_sum, leaves_weight}
 use Rattle.exr_merging.proofs.Order.{AreReady, ready_leaves, ready_within, within_more, within_one}
 use Rattle.exr_merging.proofs.Queues.{AreQueues, take_one, push_merged, first_queues}
@@ -56,10 +56,6 @@ turn_of trees xs ys first xs₁ ys₁ second xs₂ ys₂ ready queues takes_firs
       second_is = two.root_is;
       queues = subst (λ (before : List Tree). AreQueues before two.others xs₂ ys₂) is two.queues;
     }
-
--- the merging of two roots
-abbrev pub merge_of : Root → Root → Merge
-merge_of first second = record { first = first.least; second = second.least; weight = first.weight + second.weight }
 
 pub turn_weight : (leaves : List Root) (n : ℕ) (first second : Root) (xs ys : List Root) → AreLeavesOf leaves → IsTurn (merged_within n (map leaf_of leaves)) first second xs ys → first.weight + second.weight ≤ 2 ^ 25 + 1
 turn_weight leaves n first second xs ys are turn =

@@ -4,7 +4,7 @@ use Rattle.std.specs.List.{sum, count_by}
 use Rattle.std.proofs.lemmas.Bool.{cases_lt, cases_eq, cond_both, eq-eqb, ne_eqb, eqb-true}
 use Rattle.std.proofs.lemmas.List.{length-set, get_or-set_same, get_or-set_other, get_or_past, ext_get_or}
 use Rattle.exr_merging.specs.Trees.{Tree, leaf, node, least_entry, insert_tree, leaves_from, merged_within, depth_of, depth_in, merged_lengths}
-use Rattle.exr_merging.specs.Steps.{sum_trees, IsMergeOf, AreMerges}
+use Rattle.exr_merging.specs.Steps.{sum_trees, with_depths, IsMergeOf, AreMerges}
 use Rattle.exr_merging.specs.declared.root.Merge.{Merge}
 use Rattle.exr_merging.proofs.Merging.{insert_sum, merged_sum, times_in, at_least, leaves_times, length-leaves, get_or-values_below, length-merged_lengths, are_complete}
 use Rattle.exr_merging.proofs.Order.{times_least, ready_leaves, ready_within, within_more, within_same, within_one, length-within-le}
@@ -195,9 +195,15 @@ module _ (weights : List ℕ) (merges : List Merge) (d : Merge) (depths : List �
       let k = min merge.first merge.second in
       omega (arith, depth_small trees last merge depths is once before_it, lengths_at weights (length merges) k are.all turn_within.2, (are_complete weights two light).1 k)
 
-  pub turn_known : AreDepths (set (set depths merge.first (get_or depths (min merge.first merge.second) 0 + 1)) merge.second (get_or depths (min merge.first merge.second) 0 + 1)) trees last
+  pub turn_size : length (with_depths depths merge) ≡ length weights
+  turn_size =
+      let depth = get_or depths (min merge.first merge.second) 0 + 1 in
+      length-set (set depths merge.first depth) merge.second depth ∙ length-set depths merge.first depth ∙ size
+
+  pub turn_known : AreDepths (with_depths depths merge) trees last
   turn_known = undo_step trees last merge depths is once (omega (arith, turn_within.0, size)) (omega (arith, turn_within.1, size)) before_it
 
-  pub turn_none : (value k : ℕ) → get_or weights k 0 ≡ 0 → get_or depths k 0 ≡ 0 → get_or (set (set depths merge.first value) merge.second value) k 0 ≡ 0
-  turn_none value k none known_none =
-      get_or-set_other (set depths merge.first value) merge.second k value 0 (λ same. weights_there.1 (ap (λ m. get_or weights m 0) (sym same) ∙ none)) ∙ get_or-set_other depths merge.first k value 0 (λ same. weights_there.0 (ap (λ m. get_or weights m 0) (sym same) ∙ none)) ∙ known_none
+  pub turn_none : (k : ℕ) → get_or weights k 0 ≡ 0 → get_or depths k 0 ≡ 0 → get_or (with_depths depths merge) k 0 ≡ 0
+  turn_none k none known_none =
+      let depth = get_or depths (min merge.first merge.second) 0 + 1 in
+      get_or-set_other (set depths merge.first depth) merge.second k depth 0 (λ same. weights_there.1 (ap (λ m. get_or weights m 0) (sym same) ∙ none)) ∙ get_or-set_other depths merge.first k depth 0 (λ same. weights_there.0 (ap (λ m. get_or weights m 0) (sym same) ∙ none)) ∙ known_none

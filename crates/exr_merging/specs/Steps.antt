@@ -1,6 +1,6 @@
 -- Merging as the code keeps it: a tree goes by its weight and its least entry, and a merging by the least entries of
 -- the two trees that it takes.
-use Rattle.std.specs.Prelude.{◌≡◌, ℕ, ◌+◌, ◌^◌, ◌<◌, ◌≤◌, Bool, false, true, ◌&&◌, ◌||◌, ◌==◌, nat_lt, ◌⊎◌, List, [], ◌∷◌, length, map, min, sum, slice_index_or}
+use Rattle.std.specs.Prelude.{◌≡◌, ℕ, ◌+◌, ◌^◌, ◌<◌, ◌≤◌, Bool, false, true, ◌&&◌, ◌||◌, ◌==◌, nat_lt, ◌⊎◌, if◌then◌else◌, List, [], ◌∷◌, ◌++◌, length, map, min, sum, slice_index, slice_index_or, slice_set}
 use Rattle.std.specs.List.{sum_by}
 use Rattle.exr_merging.specs.declared.root.Root.{Root}
 use Rattle.exr_merging.specs.declared.root.Merge.{Merge}
@@ -14,6 +14,10 @@ root_of t = record { weight = tree_weight t; least = least_entry t }
 abbrev pub leaf_of : Root → Tree
 leaf_of root = leaf root.weight root.least
 
+-- the merging of two trees (own)
+abbrev pub merge_of : Root → Root → Merge
+merge_of first second = record { first = first.least; second = second.least; weight = first.weight + second.weight }
+
 -- the root of the tree that a merging makes (own)
 abbrev pub merged_root : Merge → Root
 merged_root merge = record { weight = merge.weight; least = min merge.first merge.second }
@@ -21,6 +25,16 @@ merged_root merge = record { weight = merge.weight; least = min merge.first merg
 -- whether the tree of one root comes before that of another (own)
 abbrev pub root_before : Root → Root → Bool
 root_before a b = nat_lt a.weight b.weight || ((a.weight == b.weight) && nat_lt a.least b.least)
+
+-- roots with an entry behind them, where it has a weight (own)
+abbrev pub with_entry : List Root → ℕ → ℕ → List Root
+with_entry roots entry weight = if weight == 0 then roots else roots ++ root_of (leaf weight entry) ∷ []
+
+-- depths with those of the two parts of a merged tree, one more than the tree's (own)
+abbrev pub with_depths : List ℕ → Merge → List ℕ
+with_depths depths merge =
+    let depth = slice_index depths (min merge.first merge.second) + 1 in
+    slice_set (slice_set depths merge.first depth) merge.second depth
 
 -- a sum over all trees (own)
 abbrev pub sum_trees : (Tree → ℕ) → List Tree → ℕ

@@ -53,11 +53,7 @@ pub(crate) fn merges_of(alloc: Global, leaves: &[Root]) -> Result<Vec<Merge>, No
     'merges: while merges.len() + 1 < leaves.len() {
         let first = take_first(leaves, &merges, &mut taken);
         let second = take_first(leaves, &merges, &mut taken);
-        merges.push(Merge {
-            first: first.least,
-            second: second.least,
-            weight: first.weight + second.weight,
-        })?;
+        merges.push(Merge::new(first, second))?;
     }
     Ok(merges)
 }

@@ -1,7 +1,7 @@
 //! How the code keeps a tree: by its weight and its least entry, by which it also comes before another or behind it.
 
-ghost use Rattle.std.specs.Prelude.{◌≡◌, ◌+◌};
-ghost use Rattle.exr_merging.specs.Steps.{root_before, merged_root};
+ghost use Rattle.std.specs.Prelude.{◌≡◌, ◌+◌, ◌^◌, ◌<◌};
+ghost use Rattle.exr_merging.specs.Steps.{root_before, merge_of, merged_root};
 
 /// A tree by its weight and its least entry.
 #[derive(Clone, Copy, PartialEq, Eq, PartialOrd, Ord)]
@@ -28,6 +28,18 @@ pub(crate) struct Merge {
 }
 
 impl Merge {
+    /// The merging of two trees.
+    pub(crate) fn new(first: Root, second: Root) -> Merge
+        requires { first.weight + second.weight < 2 ^ 32 }
+        ensures { result ≡ merge_of first second }
+    {
+        Merge {
+            first: first.least,
+            second: second.least,
+            weight: first.weight + second.weight,
+        }
+    }
+
     /// The merged tree.
     pub(crate) fn root(self) -> Root
         ensures { result ≡ merged_root self }

@@ -3,9 +3,9 @@ use Rattle.std.proofs.lemmas.List.{length_push}
 use Rattle.exr_merging.specs.declared.root.Root.{Root}
 use Rattle.exr_merging.specs.declared.root.Merge.{Merge}
 use Rattle.exr_merging.specs.Trees.{merged_within}
-use Rattle.exr_merging.specs.Steps.{leaf_of, merged_root, Takes, AreLeavesOf}
+use Rattle.exr_merging.specs.Steps.{leaf_of, merge_of, merged_root, Takes, IsMergeOf, AreLeavesOf}
 use Rattle.exr_merging.proofs.Queues.{AreQueues}
-use Rattle.exr_merging.proofs.Turns.{IsTurn, leaves_ready, queues_begin, turn_of, merge_of, turn_weight, turn_merge, turn_queues, each_more, all_merged, queue_more}
+use Rattle.exr_merging.proofs.Turns.{IsTurn, leaves_ready, queues_begin, turn_of, turn_weight, turn_merge, turn_queues, each_more, all_merged, queue_more}
 use Rattle.exr_merging.proofs.merges.merges_of.Goals as goal
 
 pub merges-init : goal.merges-init
@@ -33,8 +33,8 @@ turn_lent leaves merges lent lent_again leaf merge leaf₁ merge₁ leaf₂ merg
     (subst (λ (ms : List Merge). Takes (drop leaf leaves) (queue merge ms) first (drop leaf₁ leaves) (queue merge₁ ms)) is takes_first)
     (subst (λ (ms : List Merge). Takes (drop leaf₁ leaves) (queue merge₁ ms) second (drop leaf₂ leaves) (queue merge₂ ms)) is_again takes_second)
 
-pub overflow_add-first : goal.overflow_add-first
-overflow_add-first c =
+pub new-requires : goal.new-requires
+new-requires c =
     let leaves = c.args.leaves.now in
     let merges = c.merges.merges.items in
     let turn = turn_lent leaves merges c.deref.result.now c.deref-in-merges.result.now _ _ _ _ _ _ c.take_first-first.result c.take_first-second.result c.requires c.deref.ensures.value c.deref-in-merges.ensures.value c.merges.invariant.queues c.take_first-first.ensures.takes c.take_first-second.ensures.takes in
@@ -50,18 +50,20 @@ merges-preserved c =
     let second = c.take_first-second.result in
     let taken = c.take_first-second.new.taken in
     let turn = turn_lent leaves merges c.deref.result.now c.deref-in-merges.result.now _ _ _ _ _ _ first second c.requires c.deref.ensures.value c.deref-in-merges.ensures.value known.queues c.take_first-first.ensures.takes c.take_first-second.ensures.takes in
-    let merge = merge_of first second in
+    let merge = c.new.result in
+    let is : merge ≡ merge_of first second = c.new.ensures in
     let more : length (merges ++ merge ∷ []) ≡ length merges + 1 = length_push merges merge in
     let within : taken.merges ≤ length merges = omega (arith, c.take_first-second.ensures.merges_left, ap length c.deref-in-merges.ensures.value) in
+    let last : IsMergeOf (merged_within (length merges) trees) merge = rw is (turn_merge (merged_within (length merges) trees) first second _ _ turn) in
     let queues = turn_queues trees (length merges) first second (drop taken.leaves leaves) (map merged_root (drop taken.merges merges)) (leaves_ready leaves c.requires (length merges)) turn in
     let pushed : AreQueues (merged_within (length (merges ++ merge ∷ [])) trees) (merged_within (length (merges ++ merge ∷ [])) trees) (drop taken.leaves leaves) (map merged_root (drop taken.merges (merges ++ merge ∷ []))) =
-    rw (more, queue_more merges taken.merges merge within) queues in
+    rw (more, queue_more merges taken.merges merge within, is) queues in
     rw c.in_ok-push.ensures.items (record {
       leaves_left = c.take_first-second.ensures.leaves_left;
       merges_left = omega (arith, more, within);
       twice = omega (arith, more, known.twice, c.take_first-first.ensures.one, c.take_first-second.ensures.one);
       few = omega (arith, more, c.merges-test.true, c.len.ensures);
-      each = each_more trees merges merge known.each (turn_merge (merged_within (length merges) trees) first second _ _ turn);
+      each = each_more trees merges merge known.each last;
       queues = pushed;
     })
 
