@@ -1,13 +1,14 @@
 -- Roots in order that are those of the leaves, in any order, are the leaves in order.
-use Rattle.std.proofs.Common.{◌≡◌, ℕ, suc, ◌+◌, ◌<◌, false, cond, eqb, List, [], ◌∷◌, ◌++◌, length, map, take, get_or, refl, ap, ◌∙◌, ap₂, subst, inl, inr, arith}
+use Rattle.std.proofs.Common.{◌≡◌, ℕ, suc, ◌+◌, ◌^◌, ◌<◌, ◌≤◌, false, ltb, cond, eqb, List, [], ◌∷◌, ◌++◌, length, map, take, get_or, refl, ap, ◌∙◌, ap₂, subst, inl, inr, arith}
 use Rattle.std.specs.List.{sum_by}
-use Rattle.std.proofs.lemmas.Bool.{cases_Bool, cond_both}
+use Rattle.std.proofs.lemmas.Bool.{cases_lt, cases_Bool, cond_both, lt-ltb, le-ltb}
 use Rattle.std.proofs.lemmas.Bool.Decides.{nat_tests}
 use Rattle.std.proofs.lemmas.List.{length-take, take_more}
-use Rattle.std.proofs.lemmas.List.Sums.{sum_by-cons, sum_by_push}
+use Rattle.std.proofs.lemmas.List.Sums.{sum_by-cons, sum_by_push, get_or-le-sum_by}
+use Rattle.std.specs.List.Sorted.{IsNonDecreasingBy}
 use Rattle.exr_merging.specs.declared.root.Root.{Root}
 use Rattle.exr_merging.specs.Trees.{Tree, leaf, tree_weight, least_entry, comes_first, insert_tree, leaves_from}
-use Rattle.exr_merging.specs.Steps.{root_of, leaf_of, root_before, with_entry, sum_trees, AreAmong}
+use Rattle.exr_merging.specs.Steps.{root_of, leaf_of, root_before, root_key, with_entry, sum_trees, AreAmong}
 use Rattle.exr_merging.proofs.Merging.{insert_sum}
 use Rattle.exr_merging.proofs.Order.{comes-asym, comes-same, IsBefore, AreStrict}
 
@@ -96,13 +97,42 @@ lowest_weaker a b (root ∷ roots) le lowest = (not_before-trans root b a lowest
     not_before-trans : (c b a : Root) → root_before c b ≡ false → root_before b a ≡ false → root_before c a ≡ false
     not_before-trans c b a p q = grind (arith, nat_tests)
 
-pub rising_from : (roots : List Root) → ((k : ℕ) (d : Root) → k + 1 < length roots → root_before (get_or roots (k + 1) d) (get_or roots k d) ≡ false) → AreRising roots
+rising_from : (roots : List Root) → ((k : ℕ) (d : Root) → k + 1 < length roots → root_before (get_or roots (k + 1) d) (get_or roots k d) ≡ false) → AreRising roots
 rising_from [] neighbours = tt
 rising_from (a ∷ []) neighbours = (tt, tt)
 rising_from (a ∷ b ∷ roots) neighbours =
     let others : AreRising (b ∷ roots) = rising_from (b ∷ roots) (λ k d within. let e : suc k + 1 ≡ suc (k + 1) = omega arith in subst (λ (i : ℕ). root_before (get_or (a ∷ b ∷ roots) i d) (get_or (b ∷ roots) k d) ≡ false) e (neighbours (suc k) d (omega arith))) in
     let le : root_before b a ≡ false = neighbours 0 a (omega arith) in
     ((le, lowest_weaker a b roots le others.0), others)
+
+-- ---- roots in order, by their keys
+
+-- 1 for an entry that is no number of 32 bits
+abbrev far : Root → ℕ
+far root = cond (ltb root.least (2 ^ 32)) 0 1
+
+none_far : (entry : ℕ) (weights : List ℕ) → entry + length weights ≤ 2 ^ 32 → sum_trees (λ t. far (root_of t)) (leaves_from entry weights) ≡ 0
+none_far entry [] few = refl
+none_far entry (weight ∷ weights) few =
+    let others = leaves_from (entry + 1) weights in
+    let h = none_far (entry + 1) weights (omega arith) in
+    let near : far (root_of (leaf weight entry)) ≡ 0 = rw (lt-ltb entry (2 ^ 32) (omega arith)) refl in
+    cond_both (eqb weight 0) others (insert_tree (leaf weight entry) others) (λ (ts : List Tree). sum_trees (λ t. far (root_of t)) ts ≡ 0) (λ e. h) (λ e. insert_sum (λ t. far (root_of t)) (leaf weight entry) others ∙ omega (arith, h, near))
+
+near_from : (root : Root) → far root ≡ 0 → root.least < 2 ^ 32
+near_from root none = elim (cases_lt root.least (2 ^ 32)) [
+  | inl near ↦ near
+  | inr past ↦ absurd (let one : far root ≡ 1 = rw (le-ltb root.least (2 ^ 32) past) refl in omega arith)
+]
+
+by_keys : (a b : Root) → root_key a ≤ root_key b → b.least < 2 ^ 32 → root_before b a ≡ false
+by_keys a b le small = grind (arith, nat_tests)
+
+pub rising_by_keys : (roots : List Root) (weights : List ℕ) → length weights ≤ 2 ^ 32 → AreAmong roots (leaves_from 0 weights) → IsNonDecreasingBy root_key roots → AreRising roots
+rising_by_keys roots weights few among rises =
+    rising_from roots (λ k d within. let none = get_or-le-sum_by far roots (k + 1) d within in
+    let small = near_from (get_or roots (k + 1) d) (omega (arith, none, among far, none_far 0 weights (omega arith))) in
+    by_keys (get_or roots k d) (get_or roots (k + 1) d) (rises k (k + 1) d (omega arith) within) small)
 
 -- ---- the entries as they stand
 

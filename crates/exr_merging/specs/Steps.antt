@@ -1,6 +1,6 @@
 -- Merging as the code keeps it: a tree goes by its weight and its least entry, and a merging by the least entries of
 -- the two trees that it takes.
-use Rattle.std.specs.Prelude.{◌≡◌, ℕ, ◌+◌, ◌^◌, ◌<◌, ◌≤◌, Bool, false, true, ◌&&◌, ◌||◌, ◌==◌, nat_lt, ◌⊎◌, if◌then◌else◌, List, [], ◌∷◌, ◌++◌, length, map, min, sum, slice_index, slice_index_or, slice_set}
+use Rattle.std.specs.Prelude.{◌≡◌, ℕ, ◌+◌, ◌*◌, ◌^◌, ◌<◌, ◌≤◌, Bool, false, true, ◌&&◌, ◌||◌, ◌==◌, nat_lt, ◌⊎◌, if◌then◌else◌, List, [], ◌∷◌, ◌++◌, length, map, min, sum, slice_index, slice_index_or, slice_set}
 use Rattle.std.specs.List.{sum_by}
 use Rattle.exr_merging.specs.declared.root.Root.{Root}
 use Rattle.exr_merging.specs.declared.root.Merge.{Merge}
@@ -35,6 +35,10 @@ abbrev pub with_depths : List ℕ → Merge → List ℕ
 with_depths depths merge =
     let depth = slice_index depths (min merge.first merge.second) + 1 in
     slice_set (slice_set depths merge.first depth) merge.second depth
+
+-- one number for the order of roots whose entries are below 2 ^ 32 (own)
+abbrev pub root_key : Root → ℕ
+root_key root = root.weight * 2 ^ 32 + root.least
 
 -- a sum over all trees (own)
 abbrev pub sum_trees : (Tree → ℕ) → List Tree → ℕ

@@ -14,8 +14,8 @@ fn add_entry(entries: &mut Vec<Root>, entry: u32, weight: u32) -> Result<(), NoM
 {
     if weight != 0 {
         entries.push(Root {
-            weight,
             least: entry,
+            weight,
         })?;
     }
     Ok(())
@@ -40,6 +40,6 @@ pub(crate) fn leaves_of(alloc: Global, weights: &[u32]) -> Result<Vec<Root>, NoM
     ensures { IfOk result (λ v. map leaf_of v.items ≡ leaves_from 0 weights.now) }
 {
     let mut leaves = entries_of(alloc, weights)?;
-    leaves.sort_unstable();
+    leaves.sort_unstable_by_key(|root| root.key());
     Ok(leaves)
 }

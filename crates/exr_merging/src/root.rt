@@ -1,16 +1,23 @@
 //! How the code keeps a tree: by its weight and its least entry, by which it also comes before another or behind it.
 
 ghost use Rattle.std.specs.Prelude.{◌≡◌, ◌+◌, ◌^◌, ◌<◌};
-ghost use Rattle.exr_merging.specs.Steps.{root_before, merge_of, merged_root};
+ghost use Rattle.exr_merging.specs.Steps.{root_before, root_key, merge_of, merged_root};
 
 /// A tree by its weight and its least entry.
-#[derive(Clone, Copy, PartialEq, Eq, PartialOrd, Ord)]
+#[derive(Clone, Copy)]
 pub(crate) struct Root {
-    pub(crate) weight: u32,
     pub(crate) least: u32,
+    pub(crate) weight: u32,
 }
 
 impl Root {
+    /// One number for the order, by which a sort needs one comparison: the weight and then the least entry.
+    pub(crate) fn key(self) -> u64
+        ensures { result ≡ root_key self }
+    {
+        self.weight as u64 * (1 << 32) + self.least as u64
+    }
+
     /// Whether this tree comes before another: by weight, and of one weight by the least entry.
     pub(crate) fn comes_before(self, other: Root) -> bool
         ensures { result ≡ root_before self other }
@@ -45,8 +52,8 @@ impl Merge {
         ensures { result ≡ merged_root self }
     {
         Root {
-            weight: self.weight,
             least: self.first.min(self.second),
+            weight: self.weight,
         }
     }
 }
