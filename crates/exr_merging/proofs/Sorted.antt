@@ -1,5 +1,5 @@
 -- Roots in order that are those of the leaves, in any order, are the leaves in order.
-use Rattle.std.proofs.Common.{◌≡◌, ℕ, suc, ◌+◌, ◌^◌, ◌<◌, ◌≤◌, false, ltb, cond, eqb, List, [], ◌∷◌, ◌++◌, length, map, take, get_or, refl, ap, ◌∙◌, ap₂, subst, inl, inr, arith}
+use Rattle.std.proofs.Common.{◌≡◌, ℕ, zero, suc, ◌+◌, ◌^◌, ◌<◌, ◌≤◌, false, ltb, cond, eqb, List, [], ◌∷◌, ◌++◌, length, map, take, get_or, refl, ap, ◌∙◌, ap₂, subst, inl, inr, arith}
 use Rattle.std.specs.List.{sum_by}
 use Rattle.std.proofs.lemmas.Bool.{cases_lt, cases_Bool, cond_both, lt-ltb, le-ltb}
 use Rattle.std.proofs.lemmas.Bool.Decides.{nat_tests}
@@ -164,3 +164,12 @@ among_more roots weights k within known f =
     (cond_both (eqb w 0) roots (roots ++ root ∷ []) (λ (rs : List Root). sum_by f rs ≡ sum_trees (λ t. f (root_of t)) (leaves_from 0 (take k weights ++ w ∷ [])))
     (λ e. let none : cond (eqb w 0) 0 (f root) ≡ 0 = rw e refl in omega (arith, known f, push, added, none))
     (λ e. let one : cond (eqb w 0) 0 (f root) ≡ f root = rw e refl in omega (arith, sum_by_push f roots root, known f, push, added, one)))
+
+-- entries without a weight change nothing
+pub among_clear : (n : ℕ) (roots : List Root) (weights : List ℕ) (from : ℕ) → from + n ≤ length weights → ((k : ℕ) → k < n → get_or weights (from + k) 0 ≡ 0) → AreAmong roots (leaves_from 0 (take from weights)) → AreAmong roots (leaves_from 0 (take (from + n) weights))
+among_clear zero roots weights from within none known = let e : from + 0 ≡ from = omega arith in rw e known
+among_clear (suc n) roots weights from within none known =
+    let e : from + suc n ≡ (from + n) + 1 = omega arith in
+    let same : with_entry roots (from + n) (get_or weights (from + n) 0) ≡ roots = rw (none n (omega arith)) refl in
+    let before = among_clear n roots weights from (omega arith) (λ k below. none k (omega arith)) known in
+    rw e (subst (λ (rs : List Root). AreAmong rs (leaves_from 0 (take ((from + n) + 1) weights))) same (among_more roots weights (from + n) (omega arith) before))

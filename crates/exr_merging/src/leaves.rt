@@ -1,6 +1,6 @@
 //! The entries that have a weight, in order: by weight, and of one weight by the entry.
 
-ghost use Rattle.std.specs.Prelude.{◌≡◌, ℕ, ◌^◌, ◌<◌, length, map, nat_lt, count_by, IfOk, OnOk};
+ghost use Rattle.std.specs.Prelude.{◌≡◌, ℕ, ◌+◌, ◌^◌, ◌<◌, ◌≤◌, IsTrue, length, map, take, slice_index, IfOk, OnOk};
 ghost use Rattle.exr_merging.specs.Trees.{leaves_from};
 ghost use Rattle.exr_merging.specs.Steps.{leaf_of, with_entry, AreAmong};
 
@@ -21,16 +21,64 @@ fn add_entry(entries: &mut Vec<Root>, entry: u32, weight: u32) -> Result<(), NoM
     Ok(())
 }
 
-/// The entries that have a weight, as they stand.
+/// Puts the entries from one place to another that have a weight behind those before them.
+fn add_entries(
+    entries: &mut Vec<Root>,
+    weights: &[u32],
+    from: usize,
+    to: usize,
+) -> Result<(), NoMemory>
+    requires few { length weights.now < 2 ^ 31 }
+    requires ordered { from ≤ to }
+    requires within { to ≤ length weights.now }
+    requires before { AreAmong entries.old.items (leaves_from 0 (take from weights.now)) }
+    ensures { OnOk result (AreAmong entries.new.items (leaves_from 0 (take to weights.now))) }
+{
+    for entry in from..to {
+        add_entry(entries, entry as u32, weights[entry])?;
+    }
+    Ok(())
+}
+
+/// Whether none of eight entries has a weight.
+fn is_clear(weights: &[u32], from: usize) -> bool
+    requires { from + 8 ≤ length weights.now }
+    ensures { IsTrue result → (k : ℕ) → k < 8 → slice_index weights.now (from + k) ≡ 0 }
+{
+    let mut total = 0u64;
+    for k in 0..8 {
+        total += weights[from + k] as u64;
+    }
+    total == 0
+}
+
+/// How many entries have a weight.
+fn entry_count(weights: &[u32]) -> u32
+    requires { length weights.now < 2 ^ 31 }
+{
+    let mut count = 0;
+    for weight in weights {
+        if *weight != 0 {
+            count += 1;
+        }
+    }
+    count
+}
+
+/// The entries that have a weight, as they stand. Mostly few have one, so eight without are passed at once.
 fn entries_of(alloc: Global, weights: &[u32]) -> Result<Vec<Root>, NoMemory>
     requires { length weights.now < 2 ^ 31 }
     ensures { IfOk result (λ v. AreAmong v.items (leaves_from 0 weights.now)) }
 {
-    let count = weights.iter().filter(|weight| **weight != 0).count();
-    let mut entries = Vec::with_capacity(alloc, count)?;
-    for (entry, weight) in weights.iter().enumerate() {
-        add_entry(&mut entries, entry as u32, *weight)?;
+    let mut entries = Vec::with_capacity(alloc, entry_count(weights) as usize)?;
+    let mut from = 0;
+    'eights: while weights.len() - from >= 8 {
+        if !is_clear(weights, from) {
+            add_entries(&mut entries, weights, from, from + 8)?;
+        }
+        from += 8;
     }
+    add_entries(&mut entries, weights, from, weights.len())?;
     Ok(entries)
 }
 
