@@ -10,7 +10,7 @@ use Rattle.exr_merging.specs.Trees.{Tree, leaf, tree_weight, least_entry, leaves
 abbrev pub root_of : Tree → Root
 root_of t = record { weight = tree_weight t; least = least_entry t }
 
--- the entry that a root stands for (own)
+-- the one entry that a root stands for (own)
 abbrev pub leaf_of : Root → Tree
 leaf_of root = leaf root.weight root.least
 
@@ -30,7 +30,7 @@ root_before a b = nat_lt a.weight b.weight || ((a.weight == b.weight) && nat_lt 
 abbrev pub with_entry : List Root → ℕ → ℕ → List Root
 with_entry roots entry weight = if weight == 0 then roots else roots ++ root_of (leaf weight entry) ∷ []
 
--- depths with those of the two parts of a merged tree, one more than the tree's (own)
+-- depths at least entries, with those of the two parts of a merged tree: one more than the tree's own (own)
 abbrev pub with_depths : List ℕ → Merge → List ℕ
 with_depths depths merge =
     let depth = slice_index depths (min merge.first merge.second) + 1 in
@@ -55,27 +55,28 @@ pub record AreLeavesOf (leaves : List Root) : Type 0 where
   pub light : sum weights ≤ 2 ^ 25 + 1
   pub are : map leaf_of leaves ≡ leaves_from 0 weights
 
--- no root of the list comes before this one, or the first of them does not come before it (own)
+-- a root comes before the first of others (own)
 abbrev pub IsFirst : Root → List Root → Type 0
 IsFirst root [] = Unit {0}
 IsFirst root (other ∷ others) = root_before root other ≡ true
 
+-- the first of others does not come before a root (own)
 abbrev pub IsNotBehind : Root → List Root → Type 0
 IsNotBehind root [] = Unit {0}
 IsNotBehind root (other ∷ others) = root_before other root ≡ false
 
--- a root was taken from the front of one of two queues, the one that comes first (own)
+-- a root was taken from the front of one of two queues: the one of the two roots in front that comes first (own)
 abbrev pub Takes : List Root → List Root → Root → List Root → List Root → Type 0
 Takes leaves merged root leaves_after merged_after =
     ((leaves ≡ root ∷ leaves_after) × (merged ≡ merged_after) × IsFirst root merged) ⊎ ((merged ≡ root ∷ merged_after) × (leaves ≡ leaves_after) × IsNotBehind root leaves)
 
--- a merging of the two trees that come first (own)
+-- a merging of the two trees that come first, by their least entries (own)
 abbrev pub IsMergeOf : List Tree → Merge → Type 0
 IsMergeOf [] merge = ⊥
 IsMergeOf (a ∷ []) merge = ⊥
 IsMergeOf (a ∷ b ∷ trees) merge = (merge.first ≡ least_entry a) × (merge.second ≡ least_entry b)
 
--- all mergings of the trees, in order (own)
+-- the mergings, one after another, of trees in order, until at most one is left (own)
 pub record AreMerges (trees : List Tree) (merges : List Merge) : Type 0 where
   pub each : (k : ℕ) (d : Merge) → k < length merges → IsMergeOf (merged_within k trees) (slice_index_or merges k d)
   pub all : length (merged_within (length merges) trees) ≤ 1

@@ -1,6 +1,6 @@
 //! The entries that have a weight, in order: by weight, and of one weight by the entry.
 
-ghost use Rattle.std.specs.Prelude.{◌≡◌, ℕ, ◌+◌, ◌^◌, ◌<◌, ◌≤◌, IsTrue, length, map, take, slice_index, IfOk, OnOk};
+ghost use Rattle.std.specs.Prelude.{◌≡◌, ℕ, ◌+◌, ◌^◌, ◌<◌, ◌≤◌, IsTrue, length, map, take, slice_index, nat_lt, count_by, IfOk, OnOk};
 ghost use Rattle.exr_merging.specs.Trees.{leaves_from};
 ghost use Rattle.exr_merging.specs.Steps.{leaf_of, with_entry, AreAmong};
 
@@ -8,7 +8,7 @@ use crate::root::Root;
 use exr_base::NoMemory;
 use std::alloc::Global;
 
-/// Puts an entry that has a weight behind the others.
+/// Puts an entry behind the others, where it has a weight.
 fn add_entry(entries: &mut Vec<Root>, entry: u32, weight: u32) -> Result<(), NoMemory>
     ensures { OnOk result (entries.new.items ≡ with_entry entries.old.items entry weight) }
 {
@@ -21,7 +21,7 @@ fn add_entry(entries: &mut Vec<Root>, entry: u32, weight: u32) -> Result<(), NoM
     Ok(())
 }
 
-/// Puts the entries from one place to another that have a weight behind those before them.
+/// Puts the entries from `from` to before `to` behind those before them, where they have a weight.
 fn add_entries(
     entries: &mut Vec<Root>,
     weights: &[u32],
@@ -40,7 +40,7 @@ fn add_entries(
     Ok(())
 }
 
-/// Whether none of eight entries has a weight.
+/// Whether none of the eight entries from `from` on has a weight.
 fn is_clear(weights: &[u32], from: usize) -> bool
     requires { from + 8 ≤ length weights.now }
     ensures { IsTrue result → (k : ℕ) → k < 8 → slice_index weights.now (from + k) ≡ 0 }
@@ -55,10 +55,11 @@ fn is_clear(weights: &[u32], from: usize) -> bool
 /// How many entries have a weight.
 fn entry_count(weights: &[u32]) -> u32
     requires { length weights.now < 2 ^ 31 }
+    ensures { result ≡ count_by (λ weight. nat_lt 0 weight) weights.now }
 {
     let mut count = 0;
     for weight in weights {
-        if *weight != 0 {
+        if *weight > 0 {
             count += 1;
         }
     }

@@ -15,8 +15,8 @@ fn gives<R: Abort + AllocGlobal>(rt: &R, weights: &[u32], lengths: &[u8]) -> Res
     Ok(())
 }
 
-// With fewer than two entries there is no code. Of entries 0 and 3 with the weight 1 a tree with the weight 2 is made, whose
-// least entry is 0, so it is merged with entry 1, and not entry 1 with entry 2. The same stands in the other order.
+// With fewer than two entries that have a weight there is no code. In 1, 2, 2, 1 entries 0 and 3 become a tree of weight 2
+// whose least entry is 0, so entry 1 is merged with that tree and not with entry 2.
 #[test]
 fn by_hand(rt: HostRuntime) -> Result<(), Fail> {
     gives(&rt, &[], &[])?;
@@ -27,6 +27,15 @@ fn by_hand(rt: HostRuntime) -> Result<(), Fail> {
     gives(&rt, &[1, 2, 2, 1], &[3, 2, 1, 3])?;
     gives(&rt, &[2, 1, 1, 2], &[2, 3, 3, 1])?;
     gives(&rt, &[0, 3, 2, 1, 1, 0, 1], &[0, 2, 2, 3, 3, 0, 2])?;
+    gives(
+        &rt,
+        &[
+            1, 0, 0, 0, 0, 0, 0, 0, 0, 0, 0, 0, 0, 0, 0, 0, 0, 2, 0, 0, 3,
+        ],
+        &[
+            2, 0, 0, 0, 0, 0, 0, 0, 0, 0, 0, 0, 0, 0, 0, 0, 0, 2, 0, 0, 1,
+        ],
+    )?;
     gives(&rt, &[5, 9, 12, 13, 16, 45], &[4, 4, 3, 3, 3, 1])?;
     Ok(())
 }
