@@ -1,15 +1,15 @@
-use Rattle.std.proofs.Common.{◌≡◌, ◌-◌, ◌≤◌, vec_len, take}
-use Rattle.exr_base.specs.Bits.{bits_of_bytes}
+use Rattle.std.proofs.Common.{◌≡◌, ◌-◌, ◌≤◌, length, take}
+use Rattle.exr_huffman.specs.Blocks.{data_bits}
 use Rattle.exr_huffman.specs.Nexts.{data_rest}
 use Rattle.exr_huffman.proofs.Progress.{Progress}
-use Rattle.exr_huffman.proofs.data.data_words.Given as goal
+use Rattle.exr_huffman.proofs.data.fill_words.Given as goal
 
 abbrev pub invariant-tokens : goal.invariant-tokens
 invariant-tokens l = record {
-  bytes : l.window.bytes.now ≡ l.data;
+  bytes : l.window.bytes.now ≡ l.fn.window.bytes.now;
   within : l.window.at ≤ l.bits;
-  fewer : vec_len l.words ≤ l.wanted;
-  so_far : Progress l.least l.decoder l.wanted (take l.bits (bits_of_bytes l.data)) (data_rest l.data l.bits l.window.at) l.words.items l.before;
+  fewer : l.count ≤ length l.words;
+  so_far : Progress l.least l.decoder (length l.fn.words) (data_bits l.fn.window.bytes.now l.bits) (data_rest l.fn.window.bytes.now l.bits l.window.at) (take l.count l.words) l.before;
 }
 
 abbrev pub decreases-tokens : goal.decreases-tokens
