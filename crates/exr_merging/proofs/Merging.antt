@@ -8,26 +8,23 @@ use Rattle.std.proofs.lemmas.Nat.{pow-add}
 use Rattle.std.proofs.Math.Pow.{pow_mono}
 use Rattle.exr_codes.specs.Codes.{weight_of, IsComplete}
 use Rattle.exr_merging.specs.Trees.{Tree, leaf, node, tree_weight, least_entry, comes_first, insert_tree, leaves_from, merged_within, depth_of, depth_in, values_below, merged_lengths}
+use Rattle.exr_merging.specs.Steps.{sum_trees}
 
 -- ---- a measure that adds up over merged trees adds up over the list
 
-abbrev pub sum_trees : (Tree → ℕ) → List Tree → ℕ
-sum_trees f [] = 0
-sum_trees f (t ∷ trees) = f t + sum_trees f trees
-
-insert_sum : (f : Tree → ℕ) (t : Tree) (trees : List Tree) → sum_trees f (insert_tree t trees) ≡ f t + sum_trees f trees
+pub insert_sum : (f : Tree → ℕ) (t : Tree) (trees : List Tree) → sum_trees f (insert_tree t trees) ≡ f t + sum_trees f trees
 insert_sum f t [] = refl
 insert_sum f t (u ∷ trees) =
     cond_both (comes_first t u) (t ∷ u ∷ trees) (u ∷ insert_tree t trees) (λ (ts : List Tree). sum_trees f ts ≡ f t + (f u + sum_trees f trees)) (λ e. refl) (λ e. omega (arith, insert_sum f t trees))
 
-merged_sum : (f : Tree → ℕ) → ((a b : Tree) → f (node a b) ≡ f a + f b) → (n : ℕ) (trees : List Tree) → sum_trees f (merged_within n trees) ≡ sum_trees f trees
+pub merged_sum : (f : Tree → ℕ) → ((a b : Tree) → f (node a b) ≡ f a + f b) → (n : ℕ) (trees : List Tree) → sum_trees f (merged_within n trees) ≡ sum_trees f trees
 merged_sum f adds zero trees = refl
 merged_sum f adds (suc n) [] = refl
 merged_sum f adds (suc n) (a ∷ []) = refl
 merged_sum f adds (suc n) (a ∷ b ∷ trees) = merged_sum f adds n (insert_tree (node a b) trees) ∙ omega (arith, insert_sum f (node a b) trees, adds a b)
 
 -- how many trees are left
-length-insert_tree : (t : Tree) (trees : List Tree) → length (insert_tree t trees) ≡ suc (length trees)
+pub length-insert_tree : (t : Tree) (trees : List Tree) → length (insert_tree t trees) ≡ suc (length trees)
 length-insert_tree t [] = refl
 length-insert_tree t (u ∷ trees) =
     cond_both (comes_first t u) (t ∷ u ∷ trees) (u ∷ insert_tree t trees) (λ (ts : List Tree). length ts ≡ suc (suc (length trees))) (λ e. refl) (λ e. ap suc (length-insert_tree t trees))
@@ -91,7 +88,7 @@ present k depth (node a b) some once = elim (cases_eq (times_in k a) 0) [
 ]
 
 -- an entry that is there stands no higher than the root
-at_least : (k depth : ℕ) (t : Tree) → times_in k t ≡ 1 → depth ≤ depth_of depth t k
+pub at_least : (k depth : ℕ) (t : Tree) → times_in k t ≡ 1 → depth ≤ depth_of depth t k
 at_least k depth (leaf weight entry) once = elim (cases_eq k entry) [
   | inl same ↦ rw (eq-eqb k entry same) (omega arith)
   | inr other ↦ absurd (let none : cond (eqb k entry) 1 0 ≡ 0 = rw (ne_eqb k entry other) refl in let clash : ◌≡◌ {A = ℕ} 0 1 = sym none ∙ once in omega arith)
