@@ -4,7 +4,7 @@ use Rattle.std.specs.Int.{w64, byte_at, bytes_high_first, to_be_bytes}
 use Rattle.std.proofs.Math.Nat.{pow-suc}
 use Rattle.std.proofs.Math.Seq.{take-add}
 use Rattle.std.proofs.lemmas.Bool.{cases_lt}
-use Rattle.std.proofs.lemmas.List.{length-take, length-take-le, take_at, drop_at, take-append-le, take-append-drop, take-take, get_or-take, get_or_past}
+use Rattle.std.proofs.lemmas.List.{length-append, length-take, length-take-le, take_at, drop_at, take-append-le, take-append-drop, take-take, get_or-take, get_or_past}
 use Rattle.std.proofs.lemmas.Nat.{pow-add, shl-shr, shr-shr, mul-add-lt}
 use borrow.Rule.Slice.PartMut.{put_mid}
 use Rattle.exr_base.specs.Bits.{bits_of, bits_of_bytes}
@@ -114,3 +114,15 @@ front_is_bytes out at fits k = elim (cases_lt k at) [
   | inl inside ↦ omega (arith, get_or-take at out k 0 inside, fits k)
   | inr past ↦ omega (arith, get_or_past (take at out) k 0 (omega (arith, length-take at out)))
 ]
+
+-- ---- before the first number, and how many bits there are
+
+pub written_nothing : (at have pending : ℕ) (out : List ℕ) → at ≡ 0 → have ≡ 0 → written at have pending out ≡ []
+unfolding written
+written_nothing at have pending out none no_bits =
+    ap₂ (λ i j. bits_of_bytes (take i out) ++ bits_of j pending) none no_bits ∙ ap₂ (λ (xs ys : List Bool). xs ++ ys) bytes_nothing (bits_nothing pending)
+
+pub length-written : (at have pending : ℕ) (out : List ℕ) → at ≤ length out → length (written at have pending out) ≡ 8 * at + have
+unfolding written
+length-written at have pending out within =
+    length-append (bits_of_bytes (take at out)) (bits_of have pending) ∙ ap₂ ◌+◌ (length-bits_of_bytes (take at out) ∙ ap (λ k. 8 * k) (length-take-le at out within)) (length-bits_of have pending)
