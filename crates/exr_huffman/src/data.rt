@@ -16,6 +16,7 @@ use exr_codes::{Decoder, Found};
 use std::alloc::Global;
 
 /// The code that begins the window, which is filled first where it does not hold the whole code.
+#[inline(always)]
 fn find(decoder: &Decoder, window: &mut Window<'_>) -> Found
     requires { IsComplete decoder.now }
     ensures found { IsCodeAt decoder.now window.new.window result.entry result.len }
@@ -54,6 +55,7 @@ enum Next {
 }
 
 /// The eight bits of a run.
+#[inline(always)]
 fn take_count(window: &mut Window<'_>) -> u16
     requires there { window.old.at + 8 ≤ 8 * length window.old.bytes.now }
     requires fits { window.old.at + 8 < 2 ^ 64 }
@@ -78,6 +80,7 @@ fn put_copies(words: &mut [u16], at: usize, count: usize, word: u16)
 }
 
 /// The token that the data bits go on with.
+#[inline(always)]
 fn next_token(decoder: &Decoder, window: &mut Window<'_>, bits: u64, least: u32, run: u32) -> Next
     requires complete { IsComplete decoder.now }
     requires run { length decoder.now ≡ run + 1 }
