@@ -1,3 +1,4 @@
+pub mod Padded
 pub mod BitFronts
 pub mod Intervals
 pub mod Orders

@@ -11,4 +11,5 @@ mod table;
 
 pub use decoder::{Decoder, Found};
 pub use laws::codes_are_prefix_free;
+pub use order::{Starts, starts_of};
 pub use table::read_table;

@@ -25,9 +25,11 @@ fn full(lengths: &[u8]) -> bool
 {
     let mut total = 0u64;
     for len in lengths {
-        total += weight(*len);
-        if total > 1 << 58 {
-            return false;
+        if *len > 0 {
+            total += weight(*len);
+            if total > 1 << 58 {
+                return false;
+            }
         }
     }
     total == 1 << 58

@@ -1,22 +1,11 @@
 -- The bytes that a list of bits spells hold the bits, and zero bits that fill the last byte.
-use Rattle.std.proofs.Common.{◌≡◌, ℕ, zero, suc, ◌+◌, ◌-◌, ◌*◌, ◌/◌, ◌^◌, ◌<◌, ◌≤◌, Bool, true, false, List, [], ◌∷◌, ◌++◌, length, take, drop, replicate, refl, sym, ap, ◌∙◌, ap₂, subst, inl, inr, arith, append-nil}
+use Rattle.std.proofs.Common.{◌≡◌, ℕ, zero, suc, ◌+◌, ◌-◌, ◌*◌, ◌/◌, ◌<◌, Bool, false, List, [], ◌∷◌, ◌++◌, length, take, drop, replicate, refl, sym, ap, ◌∙◌, ap₂, inl, inr, arith}
 use Rattle.std.proofs.Math.Seq.{take-add}
 use Rattle.std.proofs.lemmas.Bool.{cases_lt}
-use Rattle.std.proofs.lemmas.List.{length-append, length-take, length-drop, length-replicate, take_at, drop_at, take-append-le, drop-append-le, take_all, drop_all, drop-drop, take-replicate, drop-replicate}
+use Rattle.std.proofs.lemmas.List.{length-append, length-take, length-replicate, drop_at, drop-append-le, take_all, drop_all, drop-drop, take-replicate, drop-replicate}
 use Rattle.exr_base.specs.Bits.{number_of, bits_of, bits_of_bytes, first_bytes_of, bytes_of}
 use Rattle.exr_base.proofs.BitLists.{bits_of-number_of, bits_of_bytes-cons}
-
--- the front of a list with copies behind it
-take_padded : {X : Type 0} (m : ℕ) (xs : List X) (a : ℕ) (x : X) → m ≤ length xs + a → take m (xs ++ replicate a x) ≡ take m xs ++ replicate (m - length xs) x
-take_padded m xs a x enough = elim (cases_lt m (length xs)) [
-  | inl inside ↦
-      let none : m - length xs ≡ 0 = omega arith in
-      rw none (take-append-le m xs (replicate a x) (omega arith) ∙ sym (append-nil (take m xs)))
-  | inr beyond ↦
-      let split : m ≡ length xs + (m - length xs) = omega arith in
-      ap (λ n. take n (xs ++ replicate a x)) split ∙ take-add (length xs) (m - length xs) (xs ++ replicate a x)
-      ∙ ap₂ ◌++◌ (take_at xs (replicate a x) (length xs) refl ∙ sym (take_all m xs beyond)) (ap (take (m - length xs)) (drop_at xs (replicate a x) (length xs) refl) ∙ take-replicate (m - length xs) a x (omega arith))
-]
+use Rattle.exr_codes.proofs.Padded.{take_padded}
 
 -- eight bits on, with eight copies fewer
 rest_padded : (n : ℕ) (bits : List Bool) → take (8 * n) (drop 8 (bits ++ replicate (8 + 8 * n) false)) ≡ take (8 * n) (drop 8 bits ++ replicate (8 * n) false)

@@ -1,2 +1,4 @@
 pub mod Filled
 pub mod Spelled
+pub mod Pens
+pub mod Codes

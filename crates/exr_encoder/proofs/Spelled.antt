@@ -1,11 +1,11 @@
 -- Writing a table item by item, and reading it again.
-use Rattle.std.proofs.Common.{◌≡◌, ◌≢◌, ℕ, zero, suc, ◌+◌, ◌-◌, ◌*◌, ◌/◌, ◌%◌, ◌^◌, ◌<◌, ◌≤◌, Bool, true, false, cond, eqb, ltb, leb, List, [], ◌∷◌, ◌++◌, length, take, drop, get_or, replicate, min, Option, Some, None, refl, sym, ap, ◌∙◌, ap₂, subst, inl, inr, arith, append_assoc, append-nil, mod-eq_of_lt}
+use Rattle.std.proofs.Common.{◌≡◌, ◌≢◌, ℕ, zero, suc, ◌+◌, ◌-◌, ◌*◌, ◌^◌, ◌<◌, ◌≤◌, Bool, true, false, cond, eqb, leb, List, [], ◌∷◌, ◌++◌, length, take, drop, get_or, replicate, Some, refl, sym, ap, ◌∙◌, inl, inr, arith, append_assoc, append-nil, mod-eq_of_lt}
 use Rattle.std.specs.List.{prefix_len}
-use Rattle.std.proofs.lemmas.List.{length-append, length-take, length-drop, length-replicate, take_at, drop_at, take-append-le, drop-append-le, take-append-drop, drop_all, drop_more, drop-drop, same_lists, get_or-take, get_or-drop, get_or-replicate, nil_from_length}
+use Rattle.std.proofs.lemmas.List.{length-append, length-take, length-drop, length-replicate, take_at, drop_at, take-append-drop, drop_all, drop_more, drop-drop, same_lists, get_or-take, get_or-drop, get_or-replicate}
 use Rattle.std.proofs.lemmas.List.Sums.{prefix_len-le-length, prefix_len_passes, prefix_len_is}
-use Rattle.std.proofs.lemmas.Bool.{cases_lt, cases_eq, eq-eqb, ne_eqb, lt-ltb, le-ltb, le-leb, lt-leb, eqb-true}
+use Rattle.std.proofs.lemmas.Bool.{cases_lt, cases_eq, cond_both, eq-eqb, ne_eqb, le-ltb, le-leb, lt-leb, eqb-true}
 use Rattle.exr_base.specs.Bits.{number_of, bits_of, bytes_of}
-use Rattle.exr_base.proofs.BitLists.{length-bits_of, number_of-bits_of}
+use Rattle.exr_base.proofs.BitLists.{length-bits_of, length-bits_of_bytes, number_of-bits_of}
 use Rattle.exr_codes.specs.Tables.{item_at, lengths_of_number, run_at, lengths_at, is_full}
 use Rattle.exr_codes.specs.Codes.{weight_of, IsComplete}
 use Rattle.std.specs.List.{sum_by}
@@ -203,3 +203,31 @@ read_again lengths complete =
     let zeros = replicate fill.0 false in
     let read = table_bits_read (length lengths) lengths zeros (omega arith) complete.short in
     table_read (length lengths) (bytes_of bits) lengths zeros (ap (lengths_at (length lengths)) fill.2 ∙ read) (filling_none zeros (rw length-replicate fill.1) (number_of-zeros fill.0)) (full_from lengths complete)
+
+-- ---- how many bytes a table has at most
+
+zeros_bits-size : (count : ℕ) → length (zeros_bits count) ≤ 14
+unfolding zeros_bits
+zeros_bits-size count =
+    cond_both (eqb count 1) (bits_of 6 0) (cond (leb count 5) (bits_of 6 (57 + count)) (bits_of 6 63 ++ bits_of 8 (count - 6))) (λ (bits : List Bool). length bits ≤ 14)
+    (λ e. omega (arith, length-bits_of 6 0))
+    (λ e. cond_both (leb count 5) (bits_of 6 (57 + count)) (bits_of 6 63 ++ bits_of 8 (count - 6)) (λ (bits : List Bool). length bits ≤ 14)
+    (λ f. omega (arith, length-bits_of 6 (57 + count)))
+    (λ f. omega (arith, length-append (bits_of 6 63) (bits_of 8 (count - 6)), length-bits_of 6 63, length-bits_of 8 (count - 6))))
+
+within_size : (n : ℕ) (lengths : List ℕ) → length (table_bits_within n lengths) ≤ 14 * n
+within_size n [] = rw (within_nothing n) (omega arith)
+within_size zero (l ∷ lengths) = unfold table_bits_within in omega arith
+within_size (suc n) (zero ∷ lengths) =
+    let count = zeros_at (zero ∷ lengths) in
+    let rest = table_bits_within n (drop count (zero ∷ lengths)) in
+    omega (arith, ap length (within_zeros n lengths), length-append (zeros_bits count) rest, zeros_bits-size count, within_size n (drop count (zero ∷ lengths)))
+within_size (suc n) (suc len ∷ lengths) =
+    omega (arith, ap length (within_length n len lengths), length-append (bits_of 6 (suc len)) (table_bits_within n lengths), length-bits_of 6 (suc len), within_size n lengths)
+
+pub table_size : (lengths : List ℕ) → length (bytes_of (table_bits lengths)) ≤ 2 * length lengths + 1
+unfolding table_bits
+table_size lengths =
+    let bits = table_bits_within (length lengths) lengths in
+    let spelled = bits_of_bytes-bytes_of bits in
+    omega (arith, within_size (length lengths) lengths, length-bits_of_bytes (bytes_of bits), ap length spelled.2, length-append bits (replicate spelled.0 false), length-replicate spelled.0 false, spelled.1)

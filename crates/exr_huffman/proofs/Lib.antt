@@ -3,3 +3,4 @@ pub mod Rests
 pub mod Rested
 pub mod Progress
 pub mod Unpacking
+pub mod Bounds

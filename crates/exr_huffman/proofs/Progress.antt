@@ -124,7 +124,7 @@ goes_on least lengths wanted all rest words before t behind p fewer token =
 
 -- ---- how the reading ends
 
-judged_few : (wanted : ℕ) (read : List Token × List Bool) → length (words_of read.0) < wanted → judged wanted read ≡ Err TooFew
+pub judged_few : (wanted : ℕ) (read : List Token × List Bool) → length (words_of read.0) < wanted → judged wanted read ≡ Err TooFew
 unfolding judged
 judged_few wanted read few = rw (lt-ltb (length (words_of read.0)) wanted few) refl
 
@@ -141,7 +141,7 @@ pub run_first : (least : ℕ) (lengths : List ℕ) (wanted : ℕ) (all : List Bo
 unfolding data_words_of
 run_first least lengths wanted all first = rw first refl
 
-word_first : (least : ℕ) (lengths : List ℕ) (wanted : ℕ) (all : List Bool) → is_run lengths (entry_at lengths all) ≡ false → data_words_of least lengths wanted all ≡ judged wanted (tokens_of least lengths all)
+pub word_first : (least : ℕ) (lengths : List ℕ) (wanted : ℕ) (all : List Bool) → is_run lengths (entry_at lengths all) ≡ false → data_words_of least lengths wanted all ≡ judged wanted (tokens_of least lengths all)
 unfolding data_words_of
 word_first least lengths wanted all first = rw first refl
 

@@ -1,30 +1,17 @@
 -- The bits from a place on, and what a window knows of them.
-use Rattle.std.proofs.Common.{◌≡◌, ℕ, zero, suc, ◌+◌, ◌-◌, ◌*◌, ◌/◌, ◌%◌, ◌^◌, ◌<◌, ◌≤◌, Bool, false, List, [], ◌∷◌, ◌++◌, length, take, drop, replicate, refl, sym, ap, ◌∙◌, ap₂, subst, inl, inr, arith, append-nil}
-use Rattle.std.proofs.lemmas.List.{length-append, length-take, length-take-le, length-drop, length-replicate, take_at, drop_at, take-append-le, drop-append-le, take-take, take_all, nil_from_length, replicate-append-replicate, drop-drop, drop-take, take-replicate}
-use Rattle.std.proofs.lemmas.Bool.{cases_lt}
-use Rattle.std.proofs.Math.Seq.{take-add}
+use Rattle.std.proofs.Common.{◌≡◌, ℕ, zero, suc, ◌+◌, ◌-◌, ◌*◌, ◌/◌, ◌%◌, ◌^◌, ◌<◌, ◌≤◌, Bool, false, List, [], ◌∷◌, ◌++◌, length, take, drop, replicate, refl, sym, ap, ◌∙◌, ap₂, subst, arith}
+use Rattle.std.proofs.lemmas.List.{length-append, length-take, length-take-le, length-drop, length-replicate, take-append-le, drop-append-le, take-take, nil_from_length, replicate-append-replicate, drop-drop, drop-take}
 use Rattle.std.proofs.Math.Nat.{zero-div}
 use Rattle.std.proofs.lemmas.Nat.{field_of, shl-shr, shr-shr, mod_low}
 use Rattle.exr_base.specs.Bits.{number_of, bits_of, bits_of_bytes}
 use Rattle.exr_base.proofs.BitLists.{length-bits_of_bytes, bits_of_bytes-cons, bits_of_bytes-append, drop-bits_of_bytes, number_of-take_more, number_of-take_below}
 use Rattle.exr_codes.proofs.BitFronts.{number_of-take}
+use Rattle.exr_codes.proofs.Padded.{take_padded}
 use Rattle.exr_codes.specs.Windows.{IsWindow}
 use Rattle.exr_huffman.specs.Rest.{rest_at}
 
 take_nil : {X : Type 0} (m : ℕ) (none : List X) → none ≡ [] → take m none ≡ []
 take_nil m none is = nil_from_length (take m none) (rw length-take (omega (arith, ap length is)))
-
--- the front of a list with copies behind it
-take_padded : {X : Type 0} (m : ℕ) (xs : List X) (a : ℕ) (x : X) → m ≤ length xs + a → take m (xs ++ replicate a x) ≡ take m xs ++ replicate (m - length xs) x
-take_padded m xs a x enough = elim (cases_lt m (length xs)) [
-  | inl inside ↦
-      let none : m - length xs ≡ 0 = omega arith in
-      rw none (take-append-le m xs (replicate a x) (omega arith) ∙ sym (append-nil (take m xs)))
-  | inr beyond ↦
-      let split : m ≡ length xs + (m - length xs) = omega arith in
-      ap (λ n. take n (xs ++ replicate a x)) split ∙ take-add (length xs) (m - length xs) (xs ++ replicate a x)
-      ∙ ap₂ ◌++◌ (take_at xs (replicate a x) (length xs) refl ∙ sym (take_all m xs beyond)) (ap (take (m - length xs)) (drop_at xs (replicate a x) (length xs) refl) ∙ take-replicate (m - length xs) a x (omega arith))
-]
 
 -- bits behind some, with more or fewer copies at the end
 same_padded : {X : Type 0} (n r : ℕ) (xs : List X) (a b : ℕ) (x : X) → r + n ≤ length xs + a → r + n ≤ length xs + b → take n (drop r (xs ++ replicate a x)) ≡ take n (drop r (xs ++ replicate b x))

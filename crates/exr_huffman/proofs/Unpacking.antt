@@ -7,7 +7,7 @@ use Rattle.exr_base.specs.declared.refusal.Refusal.{Refusal}
 use Rattle.exr_base.specs.declared.refusal.Refusal.TheVariants as refusal
 use Rattle.exr_base.specs.Bits.{bits_of_bytes}
 use Rattle.exr_codes.specs.Tables.{table_of}
-use Rattle.exr_huffman.specs.Blocks.{Block, number_at, block_of, data_of, data_words_of, huffman_of}
+use Rattle.exr_huffman.specs.Blocks.{Block, number_at, block_of, data_of, data_words_of, huffman_words_of}
 use Rattle.exr_huffman.specs.declared.fault.HufFault.{HufFault}
 use Rattle.exr_huffman.specs.declared.fault.HufFault.TheVariants.{Short, BadTable}
 
@@ -28,20 +28,20 @@ block_is packed table behind least greatest size bits long e0 e1 e2 e3 ordered r
       e3,
     ) refl
 
-pub refused : (packed : List ℕ) (wanted : ℕ) (e : Refusal HufFault) → Refuses e (block_of packed) → Refuses e (huffman_of packed wanted)
-unfolding huffman_of
+pub refused : (packed : List ℕ) (wanted : ℕ) (e : Refusal HufFault) → Refuses e (block_of packed) → Refuses e (huffman_words_of packed wanted)
+unfolding huffman_words_of
 refused packed wanted (refusal.Fault f) fault = rw fault refl
 refused packed wanted refusal.NoMemory fault = tt
 
 module _ (packed : List ℕ) (wanted : ℕ) (block : Block) (is : block_of packed ≡ Ok block) where
-  pub without_table : table_of (block.greatest - block.least + 1) block.table ≡ None → huffman_of packed wanted ≡ Err BadTable
-  unfolding huffman_of
+  pub without_table : table_of (block.greatest - block.least + 1) block.table ≡ None → huffman_words_of packed wanted ≡ Err BadTable
+  unfolding huffman_words_of
   without_table table = rw (is, table) refl
 
-  pub without_data : (lengths : List ℕ) → table_of (block.greatest - block.least + 1) block.table ≡ Some lengths → length block.behind < (block.bits + 7) / 8 → huffman_of packed wanted ≡ Err Short
-  unfolding huffman_of data_of
+  pub without_data : (lengths : List ℕ) → table_of (block.greatest - block.least + 1) block.table ≡ Some lengths → length block.behind < (block.bits + 7) / 8 → huffman_words_of packed wanted ≡ Err Short
+  unfolding huffman_words_of data_of
   without_data lengths table short = rw (is, table, lt-ltb (length block.behind) ((block.bits + 7) / 8) short) refl
 
-  pub with_data : (lengths : List ℕ) → table_of (block.greatest - block.least + 1) block.table ≡ Some lengths → (block.bits + 7) / 8 ≤ length block.behind → huffman_of packed wanted ≡ data_words_of block.least lengths wanted (take block.bits (bits_of_bytes block.behind))
-  unfolding huffman_of data_of
+  pub with_data : (lengths : List ℕ) → table_of (block.greatest - block.least + 1) block.table ≡ Some lengths → (block.bits + 7) / 8 ≤ length block.behind → huffman_words_of packed wanted ≡ data_words_of block.least lengths wanted (take block.bits (bits_of_bytes block.behind))
+  unfolding huffman_words_of data_of
   with_data lengths table there = rw (is, table, le-ltb (length block.behind) ((block.bits + 7) / 8) there) refl

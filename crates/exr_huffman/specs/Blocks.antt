@@ -41,9 +41,13 @@ abbrev pub or_bad_table : Option (List ℕ) → Result (List ℕ) HufFault
 or_bad_table (Some lengths) = Ok lengths
 or_bad_table None = Err BadTable
 
+-- so many bits of the bytes (own)
+abbrev pub data_bits : List ℕ → ℕ → List Bool
+data_bits bytes bits = take bits (bits_of_bytes bytes)
+
 -- the data bits, where their bytes are there (own)
 unfoldable pub data_of : Block → Result (List Bool) HufFault
-data_of block = if nat_lt (length block.behind) ((block.bits + 7) / 8) then Err Short else Ok (take block.bits (bits_of_bytes block.behind))
+data_of block = if nat_lt (length block.behind) ((block.bits + 7) / 8) then Err Short else Ok (data_bits block.behind block.bits)
 
 -- the bits begin with the code of the run symbol (own)
 abbrev pub is_run : List ℕ → Option ℕ → Bool
@@ -64,8 +68,8 @@ data_words_of least lengths wanted bits =
     if is_run lengths (entry_at lengths bits) then Err RunFirst else judged wanted (tokens_of least lengths bits)
 
 -- so many words that a block spells, or its first fault (own)
-unfoldable pub huffman_of : List ℕ → ℕ → Result (List ℕ) HufFault
-huffman_of packed wanted = do
+unfoldable pub huffman_words_of : List ℕ → ℕ → Result (List ℕ) HufFault
+huffman_words_of packed wanted = do
   block ← block_of packed
   lengths ← or_bad_table (table_of (block.greatest - block.least + 1) block.table)
   bits ← data_of block

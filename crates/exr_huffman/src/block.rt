@@ -3,7 +3,7 @@
 ghost use Rattle.std.specs.Prelude.{◌≡◌, ◌+◌, ◌^◌, ◌<◌, ◌≤◌, length, take, drop, IfOk};
 ghost use Rattle.std.specs.Int.{w32, from_le_bytes};
 ghost use Rattle.exr_base.specs.Refusal.{Gives};
-ghost use Rattle.exr_huffman.specs.Blocks.{huffman_of, block_of, number_at};
+ghost use Rattle.exr_huffman.specs.Blocks.{huffman_words_of, block_of, number_at};
 ghost use Rattle.exr_huffman.specs.Parts.{block_of_parts};
 
 use crate::data::data_words;
@@ -69,7 +69,7 @@ fn parts_of(packed: &[u8]) -> Result<Parts<'_>, Refusal<HufFault>>
 pub fn unpack(alloc: Global, packed: &[u8], words: usize) -> Result<Vec<u16>, Refusal<HufFault>>
     requires some { 0 < words }
     requires most { words ≤ 2 ^ 25 }
-    ensures { Gives (λ v. v.items) result (huffman_of packed.now words) }
+    ensures { Gives (λ v. v.items) result (huffman_words_of packed.now words) }
 {
     let parts = parts_of(packed)?;
     let run = parts.greatest - parts.least;

@@ -1,11 +1,11 @@
 //! The data bits of a block: they are read code by code until all words are there.
 
-ghost use Rattle.std.specs.Prelude.{◌≡◌, ◌≢◌, ℕ, ◌+◌, ◌-◌, ◌*◌, ◌^◌, ◌<◌, ◌≤◌, length, take};
-ghost use Rattle.exr_base.specs.Bits.{number_of, bits_of_bytes};
+ghost use Rattle.std.specs.Prelude.{◌≡◌, ◌≢◌, ℕ, ◌+◌, ◌-◌, ◌*◌, ◌^◌, ◌<◌, ◌≤◌, ◌++◌, false, length, take, replicate, MatchResult};
+ghost use Rattle.exr_base.specs.Bits.{number_of};
 ghost use Rattle.exr_base.specs.Refusal.{Gives};
 ghost use Rattle.exr_codes.specs.Codes.{IsComplete, entry_at};
 ghost use Rattle.exr_codes.specs.Windows.{IsCodeAt};
-ghost use Rattle.exr_huffman.specs.Blocks.{data_words_of, is_run};
+ghost use Rattle.exr_huffman.specs.Blocks.{data_bits, data_words_of, is_run};
 ghost use Rattle.exr_huffman.specs.Rest.{rest_at};
 ghost use Rattle.exr_huffman.specs.Nexts.{IsNext, data_rest};
 
@@ -16,6 +16,7 @@ use exr_codes::{Decoder, Found};
 use std::alloc::Global;
 
 /// The code that begins the window, which is filled first where it does not hold the whole code.
+#[inline(always)]
 fn find(decoder: &Decoder, window: &mut Window<'_>) -> Found
     requires { IsComplete decoder.now }
     ensures found { IsCodeAt decoder.now window.new.window result.entry result.len }
@@ -54,6 +55,7 @@ enum Next {
 }
 
 /// The eight bits of a run.
+#[inline(always)]
 fn take_count(window: &mut Window<'_>) -> u16
     requires there { window.old.at + 8 ≤ 8 * length window.old.bytes.now }
     requires fits { window.old.at + 8 < 2 ^ 64 }
@@ -69,7 +71,16 @@ fn take_count(window: &mut Window<'_>) -> u16
     count
 }
 
+/// Writes a word so many times.
+fn put_copies(words: &mut [u16], at: usize, count: usize, word: u16)
+    requires { at + count ≤ length words.old }
+    ensures { take (at + count) words.new ≡ take at words.old ++ replicate count word }
+{
+    words[at..at + count].fill(word);
+}
+
 /// The token that the data bits go on with.
+#[inline(always)]
 fn next_token(decoder: &Decoder, window: &mut Window<'_>, bits: u64, least: u32, run: u32) -> Next
     requires complete { IsComplete decoder.now }
     requires run { length decoder.now ≡ run + 1 }
@@ -96,10 +107,58 @@ fn next_token(decoder: &Decoder, window: &mut Window<'_>, bits: u64, least: u32,
     Next::More(take_count(window))
 }
 
-/// The words that the data bits spell.
+/// Fills a slice with the words that the data bits spell, where they are just as many.
+fn fill_words(
+    words: &mut [u16],
+    window: &mut Window<'_>,
+    bits: u64,
+    decoder: &Decoder,
+    least: u32,
+    run: u32,
+) -> Result<(), HufFault>
+    requires complete { IsComplete decoder.now }
+    requires run { length decoder.now ≡ run + 1 }
+    requires range { least + run ≤ 65536 }
+    requires front { window.old.at ≡ 0 }
+    requires there { bits ≤ 8 * length window.old.bytes.now }
+    requires few { bits < 2 ^ 32 }
+    requires some { 0 < length words.old }
+    requires word_first { is_run decoder.now (entry_at decoder.now (data_bits window.old.bytes.now bits)) ≡ false }
+    ensures { MatchResult result (λ _. data_words_of least decoder.now (length words.old) (data_bits window.old.bytes.now bits) ≡ Ok words.new) (λ fault. data_words_of least decoder.now (length words.old) (data_bits window.old.bytes.now bits) ≡ Err fault) }
+{
+    let mut count = 0;
+    let mut before = 0u16;
+    'tokens: while window.at < bits {
+        if count == words.len() {
+            return Err(HufFault::TooMany);
+        }
+        match next_token(decoder, window, bits, least, run) {
+            Next::Word(word) => {
+                before = word;
+                words[count] = word;
+                count += 1;
+            }
+            Next::More(more) => {
+                if more as usize > words.len() - count {
+                    return Err(HufFault::TooMany);
+                }
+                put_copies(words, count, more as usize, before);
+                count += more as usize;
+            }
+            Next::Cut => return Err(HufFault::TooFew),
+        }
+    }
+    if count < words.len() {
+        return Err(HufFault::TooFew);
+    }
+    Ok(())
+}
+
+/// The words that the data bits spell. A code and eight bits behind it stand for 255 words at most, so memory for all
+/// words is asked for only where the bits can spell so many.
 pub(crate) fn data_words(
     alloc: Global,
-    data: &[u8],
+    bytes: &[u8],
     bits: u64,
     decoder: &Decoder,
     least: u32,
@@ -109,39 +168,22 @@ pub(crate) fn data_words(
     requires complete { IsComplete decoder.now }
     requires run { length decoder.now ≡ run + 1 }
     requires range { least + run ≤ 65536 }
-    requires there { bits ≤ 8 * length data.now }
+    requires there { bits ≤ 8 * length bytes.now }
     requires few { bits < 2 ^ 32 }
     requires some { 0 < wanted }
     requires most { wanted < 2 ^ 32 }
-    ensures { Gives (λ v. v.items) result (data_words_of least decoder.now wanted (take bits (bits_of_bytes data.now))) }
+    ensures { Gives (λ v. v.items) result (data_words_of least decoder.now wanted (data_bits bytes.now bits)) }
 {
-    let mut window = Window::new(data);
+    let mut window = Window::new(bytes);
     if begins_with_run(decoder, &mut window, bits, run) {
         return Err(Refusal::Fault(HufFault::RunFirst));
     }
-    let mut words = Vec::new(alloc);
-    let mut before = 0u16;
-    'tokens: while window.at < bits {
-        if words.len() == wanted {
-            return Err(Refusal::Fault(HufFault::TooMany));
-        }
-        match next_token(decoder, &mut window, bits, least, run) {
-            Next::Word(word) => {
-                before = word;
-                words.push(word)?;
-            }
-            Next::More(count) => {
-                let longer = words.len() + count as usize;
-                if longer > wanted {
-                    return Err(Refusal::Fault(HufFault::TooMany));
-                }
-                words.resize(longer, before)?;
-            }
-            Next::Cut => return Err(Refusal::Fault(HufFault::TooFew)),
-        }
-    }
-    if words.len() < wanted {
+    if 3 * wanted as u64 > 85 * bits {
         return Err(Refusal::Fault(HufFault::TooFew));
     }
-    Ok(words)
+    let mut words = vec![in alloc; 0u16; wanted]?;
+    match fill_words(&mut words, &mut window, bits, decoder, least, run) {
+        Ok(()) => Ok(words),
+        Err(fault) => Err(Refusal::Fault(fault)),
+    }
 }

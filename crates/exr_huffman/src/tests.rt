@@ -7,8 +7,7 @@ use exr_base::Refusal;
 use std::alloc::Global;
 use std::test::Fail;
 
-// Symbols 0 and 1 with codes of one bit, and twenty data bits: the code of 0, then the run code with 255 and again
-// with 255, and two codes of 0.
+// Symbols 0 and 1 with codes of one bit, and twenty data bits: twice the code of 0 and the run code with 255 behind it.
 const ZEROS: [u8; 25] = [
     0, 0, 0, 0, 1, 0, 0, 0, 2, 0, 0, 0, 20, 0, 0, 0, 0, 0, 0, 0, 0x04, 0x10, 0x7f, 0xdf, 0xf0,
 ];

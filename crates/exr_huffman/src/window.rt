@@ -70,6 +70,7 @@ impl<'a> Window<'a> {
     }
 
     /// Fills the window.
+    #[inline(always)]
     pub(crate) fn refill(&mut self)
         ensures bytes { self.new.bytes.now ≡ self.old.bytes.now }
         ensures at { self.new.at ≡ self.old.at }
@@ -80,6 +81,7 @@ impl<'a> Window<'a> {
     }
 
     /// Goes on behind `n` bits.
+    #[inline(always)]
     pub(crate) fn skip(&mut self, n: u32)
         requires some { n < 64 }
         requires have { n ≤ self.old.have }

@@ -1,14 +1,13 @@
 -- Reading the bits of tokens gives the tokens, one by one.
-use Rattle.std.proofs.Common.{◌≡◌, ◌≢◌, ℕ, zero, suc, ◌+◌, ◌-◌, ◌*◌, ◌^◌, ◌<◌, ◌≤◌, Bool, true, false, cond, eqb, ltb, List, [], ◌∷◌, ◌++◌, length, take, drop, get_or, replicate, Option, Some, None, Result, Ok, Err, refl, sym, ap, ◌∙◌, ap₂, subst, inl, inr, arith, append_assoc, append-nil, mod-eq_of_lt, zero-add}
-use Rattle.std.specs.List.{flat_map}
+use Rattle.std.proofs.Common.{◌≡◌, ℕ, ◌+◌, ◌-◌, ◌<◌, ◌≤◌, Bool, false, List, [], ◌∷◌, ◌++◌, length, take, get_or, Some, refl, sym, ap, ◌∙◌, subst, arith, append_assoc, append-nil, mod-eq_of_lt, zero-add}
 use Rattle.std.proofs.lemmas.List.{length-append, length-replicate, take_at, drop_at}
-use Rattle.std.proofs.lemmas.Bool.{cases_lt, cases_eq, eq-eqb, ne_eqb, lt-ltb, le-ltb}
+use Rattle.std.proofs.lemmas.Bool.{eq-eqb, ne_eqb, le-ltb}
 use Rattle.exr_base.specs.Bits.{number_of, bits_of}
 use Rattle.exr_base.proofs.BitLists.{length-bits_of, number_of-bits_of}
 use Rattle.exr_codes.specs.Codes.{IsComplete, entry_at, code_of, code_number}
 use Rattle.exr_codes.proofs.Intervals.{entry_at_begins, code_begins_joined}
-use Rattle.exr_huffman.specs.Tokens.{Token, word, more, token_at, token_of, run_token, run_entry, token_bits, words_from, words_of}
-use Rattle.exr_huffman.specs.Blocks.{is_run, data_words_of}
+use Rattle.exr_huffman.specs.Tokens.{Token, word, more, token_at, run_entry, token_bits, words_from, words_of}
+use Rattle.exr_huffman.specs.Blocks.{is_run}
 use Rattle.exr_huffman.proofs.Progress.{Progress, begun, goes_on, ends_ok, token_at_nothing, words_from-append, last_from}
 use Rattle.exr_packing.specs.Spelled.{IsToken, AreTokens, tokens_bits, AreReadAgain}
 

@@ -1,1 +1,4 @@
 pub mod Again
+pub mod Weighing
+pub mod Runs
+pub mod Restored

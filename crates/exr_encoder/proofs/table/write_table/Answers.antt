@@ -1,4 +1,4 @@
-use Rattle.std.proofs.Common.{◌≡◌, ◌+◌, ◌≤◌, ◌<◌, ◌++◌, List, Bool, sym, ap, ◌∙◌, arith, append_assoc, drop, length, get_or}
+use Rattle.std.proofs.Common.{◌+◌, ◌++◌, List, Bool, sym, ap, ◌∙◌, arith, append_assoc, drop, get_or}
 use Rattle.exr_base.specs.Bits.{bits_of, bytes_of}
 use Rattle.exr_encoder.specs.Spelling.{table_bits, zeros_at, zeros_bits}
 use Rattle.std.proofs.lemmas.List.{length-drop}

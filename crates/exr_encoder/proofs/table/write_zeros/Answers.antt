@@ -1,4 +1,4 @@
-use Rattle.std.proofs.Common.{arith, append_assoc, sym}
+use Rattle.std.proofs.Common.{arith, append_assoc}
 use Rattle.exr_encoder.proofs.Spelled.{zeros_bits-one, zeros_bits-few, zeros_bits-many}
 use Rattle.exr_encoder.proofs.table.write_zeros.Goals as goal
 
