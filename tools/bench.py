@@ -146,6 +146,21 @@ def huffman_block(words):
     return struct.pack("<5I", least, run, len(table), bits, 0) + table + bytes_of_bits(data)
 
 
+def attribute(name, kind, value):
+    return name + b"\0" + kind + b"\0" + struct.pack("<i", len(value)) + value
+
+
+def head(names):
+    """A head of one pixel of one channel, with attributes of four bytes under these names before the others."""
+    one, box = struct.pack("<f", 1.0), bytes(16)
+    channels = b"Y\0" + struct.pack("<4i", 1, 0, 1, 1) + b"\0"
+    return (b"\x76\x2f\x31\x01\x02\0\0\0" + b"".join(attribute(name, b"float", one) for name in names)
+            + attribute(b"channels", b"chlist", channels) + attribute(b"compression", b"compression", b"\0")
+            + attribute(b"dataWindow", b"box2i", box) + attribute(b"displayWindow", b"box2i", box)
+            + attribute(b"lineOrder", b"lineOrder", b"\0") + attribute(b"pixelAspectRatio", b"float", one)
+            + attribute(b"screenWindowCenter", b"v2f", bytes(8)) + attribute(b"screenWindowWidth", b"float", one) + b"\0")
+
+
 def cases():
     """Each kernel with the name of an input, its bytes, and how many raw bytes it stands for."""
     raw_bytes, noise = 2 * WIDE * HIGH * CHANNELS, random.Random(1)
@@ -166,6 +181,12 @@ def cases():
                         ("noise", [noise.randrange(65536) for _ in planes]), ("one value", [7] * len(planes)),
                         ("4,096 words of a picture", wavelet(plane(16383, 1, 64, 64), 64, 64, True))):
         yield "huffman-unpack", name, struct.pack("<I", len(words)) + huffman_block(words), 2 * len(words)
+    for count in (10000, 20000, 40000):
+        data = head([b"attribute%07d" % k for k in random.Random(2).sample(range(10**7), count)])
+        yield "head-read", f"{count:,} attributes", data, len(data)
+    for count in (2000, 4000):
+        data = head([b"a" * 248 + b"%07d" % k for k in random.Random(3).sample(range(10**7), count)])
+        yield "head-read", f"{count:,} names alike but for their ends", data, len(data)
 
 
 # ---- runs
@@ -200,7 +221,7 @@ def main():
     print("|---|---|---|---|")
     with tempfile.TemporaryDirectory() as folder:
         twins = {}
-        for name in ("rle", "wavelet", "huffman"):
+        for name in ("rle", "wavelet", "huffman", "head"):
             twins[name] = os.path.join(folder, name)
             subprocess.run(["gcc", "-O2", "-o", twins[name], os.path.join(TWINS, name + ".c")], check=True)
         source = os.path.join(folder, "input")

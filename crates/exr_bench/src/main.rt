@@ -4,6 +4,7 @@
 
 mod checksum;
 mod front;
+mod head;
 mod huffman;
 mod rle;
 mod stop;
@@ -70,6 +71,7 @@ fn sum_of(alloc: Global, kernel: &str, bytes: &[u8], repeats: u32) -> Result<u64
         "rle-unpack" => rle::unpack(alloc, bytes, repeats),
         "wavelet-encode" => wavelet::step(alloc, bytes, Way::Encode, repeats),
         "wavelet-decode" => wavelet::step(alloc, bytes, Way::Decode, repeats),
+        "head-read" => head::read(alloc, bytes, repeats),
         "huffman-unpack" => huffman::unpack(alloc, bytes, repeats),
         _ => Err(Stop::Words),
     }

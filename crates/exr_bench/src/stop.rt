@@ -18,6 +18,7 @@ it gave. The kernels, and what the file has:
                    and the words line by line
   wavelet-decode   the same, of words that were encoded
   huffman-unpack   how many words there are, and a Huffman block
+  head-read        a file, or the head of one
 
 A number takes four bytes and a word two, both little endian.
 ";
