@@ -177,10 +177,13 @@ def cases():
                 words = wavelet(words, WIDE, HIGH, most < 16384)
             yield kernel, name, struct.pack(f"<3I{len(words)}H", WIDE, HIGH, most, *words), 2 * len(words)
     planes = [word for c in range(CHANNELS) for word in wavelet(plane(16383, c), WIDE, HIGH, True)]
-    for name, words in (("a picture behind the wavelet", planes),
-                        ("noise", [noise.randrange(65536) for _ in planes]), ("one value", [7] * len(planes)),
-                        ("4,096 words of a picture", wavelet(plane(16383, 1, 64, 64), 64, 64, True))):
+    blocks = (("a picture behind the wavelet", planes),
+              ("noise", [noise.randrange(65536) for _ in planes]), ("one value", [7] * len(planes)),
+              ("4,096 words of a picture", wavelet(plane(16383, 1, 64, 64), 64, 64, True)))
+    for name, words in blocks:
         yield "huffman-unpack", name, struct.pack("<I", len(words)) + huffman_block(words), 2 * len(words)
+    for name, words in blocks:
+        yield "huffman-pack", name, struct.pack(f"<{len(words)}H", *words), 2 * len(words)
     for count in (10000, 20000, 40000):
         data = head([b"attribute%07d" % k for k in random.Random(2).sample(range(10**7), count)])
         yield "head-read", f"{count:,} attributes", data, len(data)

@@ -1,5 +1,6 @@
-/* The plain C twin of exr_huffman::unpack: the same canonical codes, a table of 4,096 fronts over a window of 64 bits,
-   and longer codes by their length from the least that a front allows. */
+/* The plain C twin of exr_huffman::unpack and exr_packing::pack. Unpacking: the same canonical codes, a table of 4,096 fronts
+   over a window of 64 bits, and longer codes by their length from the least that a front allows. Packing: the same code
+   lengths by merging from two queues, and bits through 64 at a time into room for the most. */
 #include "twin.h"
 
 typedef struct { uint32_t entry; uint8_t len, least; } Fast;
@@ -111,7 +112,125 @@ static int unpack(const uint8_t *packed, size_t size, uint16_t *words, size_t wa
     return place == bits && k == wanted;
 }
 
+/* ---- packing */
+
+typedef struct { uint8_t *to; uint64_t window; unsigned have; } Pen;
+
+static inline void put(Pen *pen, uint64_t value, unsigned len) {
+    if (pen->have + len >= 64) {
+        unsigned rest = pen->have + len - 64;
+        uint64_t full = __builtin_bswap64(pen->have ? pen->window << (64 - pen->have) | value >> rest : value >> rest);
+        memcpy(pen->to, &full, 8);
+        pen->to += 8, pen->window = value, pen->have = rest;
+    } else {
+        pen->window = pen->window << len | value, pen->have += len;
+    }
+}
+
+static uint8_t *finish(Pen *pen) {
+    for (; pen->have > 0; pen->have = pen->have > 8 ? pen->have - 8 : 0)
+        *pen->to++ = pen->have >= 8 ? pen->window >> (pen->have - 8) : pen->window << (8 - pen->have);
+    return pen->to;
+}
+
+static int rising(const void *a, const void *b) {
+    uint64_t x = *(const uint64_t *)a, y = *(const uint64_t *)b;
+    return (x > y) - (x < y);
+}
+
+/* The code lengths of entries by merging the two trees that come first by weight and then by their least entry. */
+static void merge(const uint32_t *weights, size_t count, uint8_t *lengths) {
+    uint64_t *trees = malloc(16 * count); /* weight and least entry: first the leaves in order, then the merged trees */
+    uint32_t *entries = malloc(4 * count), *parents = malloc(8 * count);
+    size_t leaves = 0;
+    for (size_t k = 0; k < count; k++)
+        if (weights[k]) trees[leaves++] = (uint64_t)weights[k] << 32 | k;
+    qsort(trees, leaves, 8, rising);
+    for (size_t k = 0; k < leaves; k++) entries[k] = (uint32_t)trees[k];
+    size_t leaf = 0, merged = leaves, end = leaves;
+    while (end < 2 * leaves - 1) {
+        uint64_t sum = 0, least = UINT32_MAX;
+        for (int twice = 0; twice < 2; twice++) {
+            size_t first = leaf < leaves && (merged == end || trees[leaf] < trees[merged]) ? leaf++ : merged++;
+            parents[first] = end;
+            sum += trees[first] >> 32;
+            if ((uint32_t)trees[first] < least) least = (uint32_t)trees[first];
+        }
+        trees[end++] = sum << 32 | least;
+    }
+    uint8_t *depths = calloc(end + 1, 1);
+    for (size_t k = end - 1; k-- > 0;) depths[k] = depths[parents[k]] + 1;
+    memset(lengths, 0, count);
+    for (size_t k = 0; k < leaves; k++) lengths[entries[k]] = depths[k];
+    free(trees), free(entries), free(parents), free(depths);
+}
+
+static void put_number(uint8_t *to, uint32_t n) { to[0] = n, to[1] = n >> 8, to[2] = n >> 16, to[3] = n >> 24; }
+
+static uint8_t *pack(const uint16_t *words, size_t size, size_t *used) {
+    uint16_t least = 65535, last = 0;
+    for (size_t k = 0; k < size; k++) {
+        if (words[k] < least) least = words[k];
+        if (words[k] > last) last = words[k];
+    }
+    size_t count = last - least + 2, run = count - 1;
+    uint32_t *weights = calloc(count, 4);
+    uint8_t *lengths = malloc(count);
+    uint64_t *codes = malloc(8 * count), next[60] = {0}, total = 0;
+    for (size_t k = 0; k < size; k++) weights[words[k] - least]++;
+    weights[run] = 1;
+    merge(weights, count, lengths);
+    uint32_t counts[60] = {0};
+    for (size_t k = 0; k < count; k++) counts[lengths[k]]++, total += (uint64_t)weights[k] * lengths[k];
+    for (int len = 57; len > 0; len--) next[len] = (next[len + 1] + counts[len + 1]) >> 1;
+    for (size_t k = 0; k < count; k++)
+        if (lengths[k]) codes[k] = next[lengths[k]]++;
+    uint8_t *packed = malloc(20 + count + total / 8 + 16);
+    Pen pen = {packed + 20, 0, 0};
+    for (size_t k = 0; k < count;) {
+        size_t zeros = 0;
+        while (zeros < 261 && k + zeros < count && !lengths[k + zeros]) zeros++;
+        if (zeros >= 6) put(&pen, 63, 6), put(&pen, zeros - 6, 8);
+        else if (zeros >= 2) put(&pen, 57 + zeros, 6);
+        else put(&pen, lengths[k], 6);
+        k += zeros > 1 ? zeros : 1;
+    }
+    uint8_t *data = finish(&pen);
+    pen = (Pen){data, 0, 0};
+    for (size_t k = 0; k < size;) {
+        uint16_t word = words[k];
+        size_t end = k + 1;
+        while (end < size && words[end] == word && end - k < 256) end++;
+        uint64_t code = codes[word - least];
+        unsigned len = lengths[word - least], more = end - k - 1;
+        put(&pen, code, len);
+        if (len + lengths[run] + 8 < len * more) put(&pen, codes[run], lengths[run]), put(&pen, more, 8);
+        else while (more--) put(&pen, code, len);
+        k = end;
+    }
+    uint64_t bits = 8 * (uint64_t)(pen.to - data) + pen.have;
+    uint8_t *end = finish(&pen);
+    put_number(packed, least), put_number(packed + 4, last + 1), put_number(packed + 8, data - packed - 20);
+    put_number(packed + 12, bits), put_number(packed + 16, 0);
+    free(weights), free(lengths), free(codes);
+    *used = end - packed;
+    return packed;
+}
+
 static int run(const char *kernel) {
+    if (!strcmp(kernel, "huffman-pack")) {
+        size_t size = file_size / 2;
+        uint16_t *words = malloc(file_size + 1);
+        memcpy(words, file_bytes, 2 * size);
+        for (unsigned long turn = 0; turn < repeats; turn++) {
+            size_t used;
+            uint8_t *packed = pack(words, size, &used);
+            ADD_TURN(turn, packed, used);
+            free(packed);
+        }
+        free(words);
+        return 0;
+    }
     if (strcmp(kernel, "huffman-unpack")) return 2;
     size_t wanted = front_number();
     for (unsigned long turn = 0; turn < repeats; turn++) {

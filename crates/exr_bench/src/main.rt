@@ -72,6 +72,7 @@ fn sum_of(alloc: Global, kernel: &str, bytes: &[u8], repeats: u32) -> Result<u64
         "wavelet-encode" => wavelet::step(alloc, bytes, Way::Encode, repeats),
         "wavelet-decode" => wavelet::step(alloc, bytes, Way::Decode, repeats),
         "head-read" => head::read(alloc, bytes, repeats),
+        "huffman-pack" => huffman::pack(alloc, bytes, repeats),
         "huffman-unpack" => huffman::unpack(alloc, bytes, repeats),
         _ => Err(Stop::Words),
     }

@@ -17,6 +17,7 @@ it gave. The kernels, and what the file has:
   wavelet-encode   how many columns and lines there are and the greatest word,
                    and the words line by line
   wavelet-decode   the same, of words that were encoded
+  huffman-pack     words
   huffman-unpack   how many words there are, and a Huffman block
   head-read        a file, or the head of one
 
