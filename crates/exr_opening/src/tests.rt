@@ -10,6 +10,7 @@ use std::alloc::Global;
 use std::test::Fail;
 
 /// The front of a file of bytes; what follows is zero up to some length.
+#[derive(Drop)]
 struct Counting<'a> {
     front: &'a [u8],
     length: u64,
@@ -123,11 +124,14 @@ fn heads_of_many_sizes(rt: HostRuntime) -> Result<(), Fail> {
         let head = head_with(alloc, size)?;
         let bytes = head.len() as u64;
         for behind in [0, 1, 1 << 20, 1 << 40] {
-            let (answer, read) = opened(alloc, &head, bytes + behind)?;
+            let (answer, read) = opened(alloc, &head, bytes.saturating_add(behind))?;
             assert_eq!(rt; answer, Ok(head.len()));
-            assert!(rt; read <= 2 * bytes + (1 << 16), "{size} {read}");
+            assert!(rt;
+                read <= bytes.saturating_mul(2).saturating_add(1 << 16),
+                "{size} {read}"
+            );
         }
-        let cut = bytes - 1;
+        let cut = bytes.saturating_sub(1);
         let (answer, _) = opened(alloc, &head, cut)?;
         assert_eq!(rt;
             answer,

@@ -1,6 +1,6 @@
 -- A longer front.
 use Rattle.std.proofs.Common.{◌≡◌, ◌≤◌, length, take, ap, sym, ◌∙◌, arith}
-use Rattle.exr_opening.proofs.Pieces.{own_length}
+use Rattle.exr_opening.proofs.Pieces.{own_length, same_still}
 use Rattle.exr_opening.proofs.opening.head_within.Goals as goal
 
 pub grow-preserved : goal.grow-preserved
@@ -14,9 +14,9 @@ grow-preserved g c =
       fewer = omega arith;
       wanted = omega arith;
       some = λ lt. omega (arith, c.grow.invariant.some);
-      same = record {
-        name = c.longer.ensures.same.name ∙ c.grow.invariant.same.name;
-        content = λ told. c.longer.ensures.same.content told ∙ c.grow.invariant.same.content told;
-      };
+      same = same_still g.S.Source.means _ _ _ c.grow.invariant.same c.longer.ensures.same;
       later = omega arith;
     }
+
+pub returns-in-Some-clause-same : goal.returns-in-Some-clause-same
+returns-in-Some-clause-same g c = same_still g.S.Source.means _ _ _ c.grow.invariant.same c.longer.ensures.same
