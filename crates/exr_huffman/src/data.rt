@@ -15,7 +15,7 @@ use exr_base::Refusal;
 use exr_codes::{Decoder, Found};
 use std::alloc::Global;
 
-/// The code that begins the window, which is filled first where it does not hold the whole code.
+/// The code that begins the window, which is filled first where it does not hold the whole code, or few bits.
 #[inline(always)]
 fn find(decoder: &Decoder, window: &mut Window<'_>) -> Found
     requires { IsComplete decoder.now }
@@ -25,6 +25,9 @@ fn find(decoder: &Decoder, window: &mut Window<'_>) -> Found
     ensures at { window.new.at ≡ window.old.at }
     ensures bytes { window.new.bytes.now ≡ window.old.bytes.now }
 {
+    if window.have < 16 {
+        window.refill();
+    }
     let found = decoder.find(window.window);
     if found.len <= window.have {
         return found;

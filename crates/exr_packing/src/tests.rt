@@ -67,7 +67,8 @@ fn long_codes(rt: HostRuntime) -> Result<(), Fail> {
     let mut weight = 1usize;
     let mut before = 0usize;
     for word in 0..25u16 {
-        words.resize((words.len() + weight).min(1 << 20), word)?;
+        let longer = words.len().min(1 << 20) + weight.min(1 << 20);
+        words.resize(longer, word)?;
         let next = (weight + before).min(1 << 20);
         before = weight;
         weight = next;
