@@ -65,7 +65,12 @@ pub(crate) fn lay_together(halves: &[u8], raw: &mut [u8])
 {
     let pairs = raw.len() / 2;
     let middle = raw.len() - pairs;
-    for k in 0..pairs {
+    let mut at = 0;
+    'sixteens: while pairs - at >= 16 {
+        put_sixteen(halves, raw, at, middle + at);
+        at += 16;
+    }
+    for k in at..pairs {
         let even = halves[k];
         let odd = halves[middle + k];
         raw[2 * k] = even;
@@ -74,4 +79,19 @@ pub(crate) fn lay_together(halves: &[u8], raw: &mut [u8])
     if pairs < middle {
         raw[2 * pairs] = halves[pairs];
     }
+}
+
+/// Sixteen bytes of either half side by side, from a place in each half on.
+fn put_sixteen(halves: &[u8], raw: &mut [u8], even: usize, odd: usize)
+    requires evens { even + 16 ≤ length halves.now }
+    requires odds { odd + 16 ≤ length halves.now }
+    requires room { 2 * even + 32 ≤ length raw.old }
+    ensures put { (k : ℕ) → k < 32 → slice_index raw.new (2 * even + k) ≡ (if k % 2 == 0 then slice_index halves.now (even + k / 2) else slice_index halves.now (odd + k / 2)) }
+    ensures others { (k : ℕ) → k < 2 * even → slice_index raw.new k ≡ slice_index raw.old k }
+{
+    let evens = u8x16::from_slice(&halves[even..]);
+    let odds = u8x16::from_slice(&halves[odd..]);
+    let (first, second) = evens.interleave(odds);
+    first.copy_to_slice(&mut raw[2 * even..]);
+    second.copy_to_slice(&mut raw[2 * even + 16..]);
 }
