@@ -155,6 +155,14 @@ fn faults_of_long_files(rt: HostRuntime) -> Result<(), Fail> {
         assert_eq!(rt; answer, Err(OpenFault::Head(limit)));
         assert_eq!(rt; read, (1 << 24) + 1);
     }
+    // a size that is only claimed
+    let claims = b"v/1\x01\x02\0\0\0aaa\0string\0\xff\xff\xff\x7f";
+    let (answer, read) = opened(alloc, claims, 300)?;
+    assert_eq!(rt;
+        answer,
+        Err(OpenFault::Head(HeaderFault::Truncated { at: 300 }))
+    );
+    assert_eq!(rt; read, 300);
     let (answer, read) = opened(alloc, &[], 0)?;
     assert_eq!(rt;
         answer,
