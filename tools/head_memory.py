@@ -7,6 +7,7 @@ Use: tools/head_memory.py, at the top of the repository, after `rt ci exr` has b
 import os, struct, subprocess, sys, tempfile
 
 PROGRAM = os.path.abspath("crates/exr/out/exr")
+LAUNCHER = os.path.abspath("tools/twins/peak.c")
 FRONT = b"\x76\x2f\x31\x01\x02\0\0\0"
 
 
@@ -53,15 +54,15 @@ def main():
     print("| head | status | file, bytes | peak, MiB | bytes a byte beyond 4 MiB |")
     print("|---|---|---|---|---|")
     with tempfile.TemporaryDirectory(dir="/dev/shm") as folder:
-        source = os.path.join(folder, "a.exr")
+        source, launcher = os.path.join(folder, "a.exr"), os.path.join(folder, "peak")
+        subprocess.run(["gcc", "-O2", "-o", launcher, LAUNCHER], check=True)
         for name, data in cases():
             with open(source, "wb") as file:
                 file.write(data)
-            child = subprocess.Popen([PROGRAM, "header", "in=" + source], stdout=subprocess.DEVNULL, stderr=subprocess.DEVNULL)
-            _, status, usage = os.wait4(child.pid, 0)
-            peak = usage.ru_maxrss * 1024
-            ratio = max(0, peak - (4 << 20)) / min(len(data), (1 << 24) + 1)
-            print(f"| {name} | {os.waitstatus_to_exitcode(status)} | {len(data):,} | {peak / 2**20:.1f} | {ratio:.1f} |", flush=True)
+            words = [launcher, PROGRAM, "header", "in=" + source]
+            status, peak = map(int, subprocess.run(words, check=True, stdout=subprocess.PIPE).stdout.split())
+            ratio = max(0, 1024 * peak - (4 << 20)) / min(len(data), (1 << 24) + 1)
+            print(f"| {name} | {status} | {len(data):,} | {peak / 1024:.1f} | {ratio:.1f} |", flush=True)
             if ratio > 64:
                 sys.exit("more than 64 bytes a byte")
 

@@ -173,7 +173,8 @@ static uint8_t *pack(const uint16_t *words, size_t size, size_t *used) {
         if (words[k] < least) least = words[k];
         if (words[k] > last) last = words[k];
     }
-    size_t count = last - least + 2, run = count - 1;
+    size_t count = (size_t)last - least + 2, run = count - 1;
+    if (least > last) exit(7);
     uint32_t *weights = calloc(count, 4);
     uint8_t *lengths = malloc(count);
     uint64_t *codes = malloc(8 * count), next[60] = {0}, total = 0;
