@@ -3,7 +3,6 @@ use Rattle.std.proofs.lemmas.List.{get_or_read}
 use Rattle.std.proofs.Common.{refl}
 use Rattle.exr_codes.specs.Codes.{weight_above}
 use Rattle.exr_codes.specs.Decoding.{count_above}
-use Rattle.exr_codes.proofs.Intervals.{weight_above_mono}
 use Rattle.exr_codes.proofs.Orders.{longer_is_small}
 use Rattle.exr_codes.proofs.Fronts.{rank_below, found_long, place_below}
 use Rattle.exr_codes.proofs.decoder.Decoder.find_long.Goals as goal
@@ -53,24 +52,3 @@ returns c =
     let place : get_or d.places len 0 + (c.args.window / 64 - get_or d.firsts len 0) / 2 ^ (58 - len) ≡ count_above len lengths + rank = rw (first, is.starts.place len known.small) refl in
     let entry : c.index-entry.result.now ≡ get_or d.sorted.items (count_above len lengths + rank) 0 = get_or_read d.sorted.items (count_above len lengths + rank) c.index-entry.result.now within (c.index-entry.ensures ∙ ap (λ n. get_or d.sorted.items n c.index-entry.result.now) place) 0 in
     rw (← c.self.view_is, entry) (found_long lengths is.complete c.args.window len known.some known.small from known.above (get_or d.sorted.items (count_above len lengths + rank) 0) ranked)
-
-pub two_on-len-requires-clause-falling : goal.two_on-len-requires-clause-falling
-two_on-len-requires-clause-falling c =
-    let d = c.self.inside in
-    let is = c.self.invariant in
-    λ a b le small. rw (is.starts.first b small, is.starts.first a (omega arith)) (weight_above_mono a b d.lengths.items le)
-
-pub two_on-len-requires-clause-above : goal.two_on-len-requires-clause-above
-two_on-len-requires-clause-above c =
-    let is = c.self.invariant in
-    rw (is.starts.first (c.args.least - 1) (omega (arith, c.requires.small)), c.self.view_is) c.requires.above
-
-pub longer-init : goal.longer-init
-longer-init c =
-    let is = c.self.invariant in
-    let told = c.two_on-len.ensures in
-    record {
-      some = told.some;
-      small = told.small;
-      above = rw (← is.starts.first (c.two_on-len.result - 1) (omega (arith, told.small))) told.above;
-    }
