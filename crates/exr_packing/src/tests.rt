@@ -69,7 +69,7 @@ fn long_codes(rt: HostRuntime) -> Result<(), Fail> {
     for word in 0..25u16 {
         let longer = words.len().min(1 << 20) + weight.min(1 << 20);
         words.resize(longer, word)?;
-        let next = weight.saturating_add(before).min(1 << 20);
+        let next = weight.min(1 << 20) + before.min(1 << 20);
         before = weight;
         weight = next;
     }
