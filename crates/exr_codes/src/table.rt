@@ -61,7 +61,7 @@ fn take_lengths(
     ensures short { IfOk result (λ read. IfSome read (λ v. (k : ℕ) → slice_index v.items k ≤ 58)) }
     ensures size { IfOk result (λ read. IfSome read (λ v. vec_len v ≡ count)) }
 {
-    let mut lengths = Vec::new(alloc);
+    let mut lengths = Vec::with_capacity(alloc, count)?;
     'items: while lengths.len() < count {
         let Some(item) = take_item(reader) else {
             return Ok(None);

@@ -11,8 +11,8 @@ returns-in_default-clause-value c =
     let known = c.items.invariant in
     sym (read_none c.args.count c.items.reader c.args.reader.now c.items.lengths.items (c.args.count - vec_len c.items.lengths) known.so_far (omega arith) c.in_default.ensures.value)
 
-pub items-preserved-in-Continue-1 : goal.items-preserved-in-Continue-1
-items-preserved-in-Continue-1 c =
+pub items-preserved-in-Continue-branch-2 : goal.items-preserved-in-Continue-branch-2
+items-preserved-in-Continue-branch-2 c =
     let known = c.items.invariant in
     let len = c.in-Length.len in
     let front = c.items.lengths.items in
