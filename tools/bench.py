@@ -185,8 +185,11 @@ def cases():
     for name, words in blocks:
         yield "huffman-pack", name, struct.pack(f"<{len(words)}H", *words), 2 * len(words)
     for count in (10000, 20000, 40000):
-        data = head([b"attribute%07d" % k for k in random.Random(2).sample(range(10**7), count)])
+        data = head([b"attribute%07d" % k for k in range(count)])
         yield "head-read", f"{count:,} attributes", data, len(data)
+    for count in (10000, 20000, 40000):
+        data = head([b"attribute%07d" % k for k in random.Random(2).sample(range(count), count)])
+        yield "head-read", f"{count:,} attributes, shuffled", data, len(data)
     for count in (2000, 4000):
         data = head([b"a" * 248 + b"%07d" % k for k in random.Random(3).sample(range(10**7), count)])
         yield "head-read", f"{count:,} names alike but for their ends", data, len(data)
