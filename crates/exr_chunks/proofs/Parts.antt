@@ -1,0 +1,210 @@
+-- What is known of a part and of one of its chunks.
+use Rattle.std.proofs.Common.{◌≡◌, ℕ, zero, suc, ◌+◌, ◌*◌, ◌/◌, ◌%◌, ◌^◌, ◌<◌, ◌≤◌, true, false, refl, sym, ap, subst, ◌∙◌, arith, ℤ, ◌≤ℤ◌, List, Option, Some, None}
+use Rattle.std.proofs.lemmas.Nat.{row-Below, mod_below}
+use Rattle.std.proofs.lemmas.Int.{ints}
+use Rattle.std.proofs.lemmas.List.Elements.{All-same}
+use Rattle.exr_base.specs.declared.shape.Box2i.{Box2i}
+use Rattle.exr_base.specs.declared.channel.Channel.{Channel}
+use Rattle.exr_base.specs.declared.method.Method.{Method}
+use Rattle.exr_base.specs.declared.method.Method.TheVariants.{No, Rle, Zips, Zip, Piz, Pxr24, B44, B44a, Dwaa, Dwab}
+use Rattle.exr_base.specs.Method.{lines_of}
+use Rattle.exr_base.specs.Sampling.{span_of}
+use Rattle.exr_base.specs.Shape.{width_of, height_of, IsSide, IsRegion, IsSampled, IsShape}
+use Rattle.exr_chunks.specs.declared.part.Part.{Part}
+use Rattle.exr_chunks.specs.declared.place.Place.TheVariants.{Line, Tile}
+use Rattle.exr_chunks.specs.Heads.{Header, Tiles, AreTiles, IsPicture, is_deep, pieces, columns_of, rows_of, chunk_width, chunk_height, chunk_count_of}
+use Rattle.exr_chunks.specs.Part.{without_attributes, header_of, IsPart}
+use Rattle.exr_chunks.specs.Region.{across_of, down_of, start_of, end_of, region_of, chunk_bytes_of, place_among, place_of}
+use Rattle.exr_chunks.proofs.Pieces.{piece_within, piece_side, span_is}
+
+-- a size is 1 to 2^30
+pub record IsSize (n : ℕ) : Type 0 where
+  pub some : 1 ≤ n
+  pub small : n ≤ 2 ^ 30
+
+columns_size : (whole : ℕ) (t : Option Tiles) → 1 ≤ whole → whole ≤ 2 ^ 20 → AreTiles t → IsSize (columns_of whole t)
+columns_size whole None some small tiles = record { some = some; small = omega (arith, small) }
+columns_size whole (Some t) some small tiles = record { some = tiles.0; small = tiles.1 }
+
+lines_size : (m : Method) → IsSize (lines_of m)
+lines_size No = record { some = omega arith; small = omega arith }
+lines_size Rle = record { some = omega arith; small = omega arith }
+lines_size Zips = record { some = omega arith; small = omega arith }
+lines_size Zip = record { some = omega arith; small = omega arith }
+lines_size Piz = record { some = omega arith; small = omega arith }
+lines_size Pxr24 = record { some = omega arith; small = omega arith }
+lines_size B44 = record { some = omega arith; small = omega arith }
+lines_size B44a = record { some = omega arith; small = omega arith }
+lines_size Dwaa = record { some = omega arith; small = omega arith }
+lines_size Dwab = record { some = omega arith; small = omega arith }
+
+rows_size : (lines : ℕ) (t : Option Tiles) → IsSize lines → AreTiles t → IsSize (rows_of lines t)
+rows_size lines None size tiles = size
+rows_size lines (Some t) size tiles = record { some = tiles.2; small = tiles.3 }
+
+-- a side of a window has at least one place
+pub side_some : (from to : ℤ) → from ≤ℤ to → IsSide from to → 1 ≤ span_of from to
+side_some from to ordered side =
+    let span = span_is from to side.ends in
+    omega (arith, ints, span, ordered)
+
+pub width_size : (h : Header) → IsPicture h → IsSize (chunk_width h)
+width_size h picture =
+    columns_size (width_of h.window) h.tiles (side_some h.window.x0 h.window.x1 picture.columns picture.shape.within.columns) picture.shape.within.columns.few picture.tiles
+
+pub height_size : (h : Header) → IsPicture h → IsSize (chunk_height h)
+height_size h picture = rows_size (lines_of h.method) h.tiles (lines_size h.method) picture.tiles
+
+-- a part and one of its chunks
+pub record IsCut (p : Part) (i : ℕ) : Type 0 where
+  pub across : 0 < p.across
+  pub left : i % p.across < p.across
+  pub above : i / p.across < p.down
+  pub columns : IsSide p.window.x0 p.window.x1
+  pub rows : IsSide p.window.y0 p.window.y1
+  pub column_size : IsSize p.columns
+  pub row_size : IsSize p.rows
+  pub column : i % p.across * p.columns < span_of p.window.x0 p.window.x1
+  pub row : i / p.across * p.rows < span_of p.window.y0 p.window.y1
+
+first_factor : (i a b : ℕ) → i < a * b → 0 < a
+first_factor i zero b h = absurd (omega arith)
+first_factor i (suc a) b h = omega arith
+
+pub product : (p : Part) → IsPart p → p.count ≡ p.across * p.down
+unfolding chunk_count_of header_of
+product p part = part.count ∙ sym (rw (part.across, part.down) refl)
+
+pub cut : (p : Part) (i : ℕ) → IsPart p → i < p.count → IsCut p i
+unfolding header_of
+cut p i part within =
+    let all : i < p.across * p.down = omega (arith, product p part, within) in
+    let across : 0 < p.across = first_factor i p.across p.down all in
+    let left : i % p.across < p.across = mod_below i p.across across in
+    let above : i / p.across < p.down = (row-Below i p.across p.across p.down all (omega arith)).1 in
+    let column_size : IsSize p.columns = subst IsSize (sym part.columns) (width_size (header_of p) part.picture) in
+    let row_size : IsSize p.rows = subst IsSize (sym part.rows) (height_size (header_of p) part.picture) in
+    let columns_cover : p.across ≡ pieces p.columns (span_of p.window.x0 p.window.x1) = part.across ∙ ap (λ n. pieces n (span_of p.window.x0 p.window.x1)) (sym part.columns) in
+    let rows_cover : p.down ≡ pieces p.rows (span_of p.window.y0 p.window.y1) = part.down ∙ ap (λ n. pieces n (span_of p.window.y0 p.window.y1)) (sym part.rows) in
+    record {
+      across = across;
+      left = left;
+      above = above;
+      columns = part.picture.shape.within.columns;
+      rows = part.picture.shape.within.rows;
+      column_size = column_size;
+      row_size = row_size;
+      column = piece_within p.columns (span_of p.window.x0 p.window.x1) (i % p.across) column_size.some (subst (λ n. i % p.across < n) columns_cover left);
+      row = piece_within p.rows (span_of p.window.y0 p.window.y1) (i / p.across) row_size.some (subst (λ n. i / p.across < n) rows_cover above);
+    }
+
+pub rows_side : (p : Part) → IsPart p → IsSide p.window.y0 p.window.y1
+unfolding header_of
+rows_side p part = part.picture.shape.within.rows
+
+pub row_size : (p : Part) → IsPart p → IsSize p.rows
+row_size p part = subst IsSize (sym part.rows) (height_size (header_of p) part.picture)
+
+pub down_here : (p : Part) → IsPart p → p.down ≡ pieces p.rows (span_of p.window.y0 p.window.y1)
+unfolding header_of
+down_here p part = part.down ∙ ap (λ n. pieces n (span_of p.window.y0 p.window.y1)) (sym part.rows)
+
+-- ---- the region of a chunk
+
+-- four places are those of a chunk
+pub record AreEnds (p : Part) (i : ℕ) (x0 y0 x1 y1 : ℤ) : Type 0 where
+  pub left : x0 ≡ start_of p.window.x0 p.columns (i % p.across)
+  pub top : y0 ≡ start_of p.window.y0 p.rows (i / p.across)
+  pub right : x1 ≡ end_of p.window.x0 p.window.x1 p.columns (i % p.across)
+  pub bottom : y1 ≡ end_of p.window.y0 p.window.y1 p.rows (i / p.across)
+
+by_both : (f : ℕ → ℕ → ℤ) (s t m n : ℕ) → s ≡ t → m ≡ n → f s m ≡ f t n
+by_both f s t m n a b = ap (λ k. f k m) a ∙ ap (λ k. f t k) b
+
+same_box : (a b c d e f g h : ℤ) → a ≡ e → b ≡ f → c ≡ g → d ≡ h → ◌≡◌ {A = Box2i} (record { x0 = a; y0 = b; x1 = c; y1 = d }) (record { x0 = e; y0 = f; x1 = g; y1 = h })
+same_box a b c d e f g h p q r s = rw (p, q, r, s) refl
+
+pub region_is : (p : Part) (i : ℕ) (x0 y0 x1 y1 : ℤ) → IsPart p → AreEnds p i x0 y0 x1 y1 → ◌≡◌ {A = Box2i} (record { x0 = x0; y0 = y0; x1 = x1; y1 = y1 }) (region_of (header_of p) i)
+unfolding region_of header_of
+region_is p i x0 y0 x1 y1 part ends =
+    let h = header_of p in
+    let w = p.window in
+    same_box x0 y0 x1 y1 _ _ _ _
+    (ends.left ∙ by_both (λ s n. start_of w.x0 s (i % n)) p.columns (chunk_width h) p.across (across_of h) part.columns part.across)
+    (ends.top ∙ by_both (λ s n. start_of w.y0 s (i / n)) p.rows (chunk_height h) p.across (across_of h) part.rows part.across)
+    (ends.right ∙ by_both (λ s n. end_of w.x0 w.x1 s (i % n)) p.columns (chunk_width h) p.across (across_of h) part.columns part.across)
+    (ends.bottom ∙ by_both (λ s n. end_of w.y0 w.y1 s (i / n)) p.rows (chunk_height h) p.across (across_of h) part.rows part.across)
+
+sides_by : (a b c d : ℤ) → a ≡ c → b ≡ d → IsSide c d → IsSide a b
+sides_by a b c d e f side = rw (e, f) side
+
+pub region_sides : (p : Part) (i : ℕ) (x0 y0 x1 y1 : ℤ) → IsCut p i → AreEnds p i x0 y0 x1 y1 → IsRegion (record { x0 = x0; y0 = y0; x1 = x1; y1 = y1 })
+region_sides p i x0 y0 x1 y1 cut ends = record {
+  columns = sides_by x0 x1 _ _ ends.left ends.right (piece_side p.window.x0 p.window.x1 p.columns (i % p.across) cut.columns cut.column_size.some cut.column);
+  rows = sides_by y0 y1 _ _ ends.top ends.bottom (piece_side p.window.y0 p.window.y1 p.rows (i / p.across) cut.rows cut.row_size.some cut.row);
+}
+
+-- ---- raw sizes
+
+pub table_is : (p : Part) (i a b : ℕ) (r : Box2i) → r ≡ region_of (header_of p) i → is_deep p.kind ≡ true → a ≡ width_of r → b ≡ height_of r → 4 * (a * b) ≡ chunk_bytes_of (header_of p) i
+unfolding chunk_bytes_of header_of
+table_is p i a b r is deep ea eb = rw (deep, ea, eb, is) refl
+
+pub flat_is : (p : Part) (i n : ℕ) (cs : List Channel) (r : Box2i) → r ≡ region_of (header_of p) i → is_deep p.kind ≡ false → cs ≡ p.channels.items → n ≡ Rattle.exr_base.specs.Shape.raw_size_of cs r → n ≡ chunk_bytes_of (header_of p) i
+unfolding chunk_bytes_of header_of
+flat_is p i n cs r is flat same e = rw (flat, e, same, is) refl
+
+pub shape_is : (p : Part) (cs : List Channel) (r : Box2i) → IsPart p → cs ≡ p.channels.items → IsRegion r → IsShape cs r
+unfolding header_of
+shape_is p cs r part same region = record {
+  few = rw same part.picture.shape.few;
+  sampled = All-same IsSampled cs p.channels.items same part.picture.shape.sampled;
+  within = region;
+}
+
+-- ---- places
+
+pub line_is : (p : Part) (i : ℕ) (y : ℤ) (r : Box2i) → r ≡ region_of (header_of p) i → p.tiles ≡ None → y ≡ r.y0 → Line y ≡ place_of (header_of p) i
+unfolding place_of header_of
+line_is p i y r is none e =
+    ap (λ z. Line z) (e ∙ ap (λ (b : Box2i). b.y0) is) ∙ sym (ap (λ t. place_among (header_of p) t i) none)
+
+pub tile_is : (p : Part) (i : ℕ) (t : Tiles) → IsPart p → p.tiles ≡ Some t → Tile (i % p.across) (i / p.across) 0 0 ≡ place_of (header_of p) i
+unfolding place_of header_of
+tile_is p i t part some =
+    ap (λ n. Tile (i % n) (i / n) 0 0) part.across ∙ sym (ap (λ t. place_among (header_of p) t i) some)
+
+-- ---- a part of a header
+
+pub bare_picture : (h : Header) → IsPicture h → IsPicture (without_attributes h)
+bare_picture h picture = record { shape = picture.shape; columns = picture.columns; rows = picture.rows; tiles = picture.tiles }
+
+pub bare_count : (h : Header) → chunk_count_of (without_attributes h) ≡ chunk_count_of h
+unfolding chunk_count_of
+bare_count h = refl
+
+pub across_is : (h : Header) (w : Box2i) (size whole a : ℕ) → w ≡ h.window → size ≡ chunk_width h → whole ≡ width_of w → a ≡ pieces size whole → a ≡ across_of h
+across_is h w size whole a ew es el ea = ea ∙ rw (es, el, ew) refl
+
+pub down_is : (h : Header) (w : Box2i) (size whole a : ℕ) → w ≡ h.window → size ≡ chunk_height h → whole ≡ height_of w → a ≡ pieces size whole → a ≡ down_of h
+down_is h w size whole a ew es el ea = ea ∙ rw (es, el, ew) refl
+
+pub count_is : (h : Header) (a d : ℕ) → a ≡ across_of h → d ≡ down_of h → a * d ≡ chunk_count_of h
+unfolding chunk_count_of
+count_is h a d ea ed = ap (λ n. n * d) ea ∙ ap (λ n. across_of h * n) ed
+
+pub header_is : (h : Header) (p : Part) → p.kind ≡ h.kind → p.channels.items ≡ h.channels → p.method ≡ h.method → p.window ≡ h.window → p.order ≡ h.order → p.tiles ≡ h.tiles → header_of p ≡ without_attributes h
+unfolding header_of
+header_is h p a b c d e f = rw (a, b, c, d, e, f) refl
+
+pub part_is : (h : Header) (p : Part) → IsPicture h → header_of p ≡ without_attributes h → p.columns ≡ chunk_width h → p.rows ≡ chunk_height h → p.across ≡ across_of h → p.down ≡ down_of h → p.count ≡ chunk_count_of h
+    → p.first + chunk_count_of h ≤ 2 ^ 20 → IsPart p
+part_is h p picture e columns rows across down count few = record {
+  picture = subst IsPicture (sym e) (bare_picture h picture);
+  columns = columns ∙ sym (ap chunk_width e);
+  rows = rows ∙ sym (ap chunk_height e);
+  across = across ∙ sym (ap across_of e);
+  down = down ∙ sym (ap down_of e);
+  count = count ∙ sym (bare_count h) ∙ sym (ap chunk_count_of e);
+  few = omega (arith, count, few);
+}

@@ -1,0 +1,5 @@
+pub mod Heads
+pub mod Part
+pub mod Region
+pub mod Table
+pub mod Turns

@@ -1,0 +1,149 @@
+//! The geometry of a file: where the chunks of all its parts lie.
+
+ghost use Rattle.std.specs.Prelude.{◌≡◌, ◌≢◌, ◌<◌, ◌≤◌, ◌^◌, ℕ, All, IfOk, IfSome, length, map, sum_by};
+ghost use Rattle.exr_base.specs.Shape.{IsRegion};
+ghost use Rattle.exr_chunks.specs.Heads.{IsPicture, chunk_count_of};
+ghost use Rattle.exr_chunks.specs.Part.{without_attributes, header_of, IsPart};
+ghost use Rattle.exr_chunks.specs.Region.{header_at, region_of, chunk_bytes_of, place_of, IsIndexOf};
+ghost use Rattle.exr_chunks.specs.Table.{chunks_before, entry_place};
+
+use crate::part::Part;
+use crate::place::Place;
+use exr_base::{Box2i, NoMemory};
+use exr_header::{FileHead, Header};
+use std::alloc::Global;
+use std::marker::Model;
+
+/// Where the chunks of all parts of a file lie, seen as the headers of its parts without their attributes.
+///
+/// Parts, indexes and turns count from 0. An index is a chunk's place in its part's table of offsets. But for `new`
+/// the calls take no memory, and each takes the same time whatever the head, but for `at_turn`, which
+/// searches the parts by halves, and `raw_size`, which goes over the channels.
+#[derive(Drop, Debug)]
+pub struct Geometry {
+    parts: Vec<Part>,
+    total: u32,
+}
+
+impl Model for Geometry {
+    ghost use Rattle.std.specs.Prelude.{List};
+    ghost use Rattle.exr_chunks.specs.Heads.{Header};
+    ghost use Rattle.exr_chunks.specs.Part.{headers_of, AreParts};
+
+    ghost Value = { List Header };
+
+    ghost view = { λ g. headers_of g.parts.items };
+
+    ghost invariant = { λ g. AreParts g.parts.items g.total };
+}
+
+/// The geometry of the parts with these headers.
+fn geometry_of(alloc: Global, headers: &[Header]) -> Result<Geometry, NoMemory>
+    requires pictures { All IsPicture headers.now }
+    requires few { sum_by chunk_count_of headers.now ≤ 2 ^ 20 }
+    requires short { length headers.now ≤ 1024 }
+    ensures { IfOk result (λ geometry. geometry ≡ map without_attributes headers.now) }
+{
+    let mut parts = Vec::with_capacity(alloc, headers.len())?;
+    let mut total = 0;
+    for header in headers {
+        let part = Part::new(alloc, header, total)?;
+        total += part.count;
+        parts.push(part)?;
+    }
+    Ok(Geometry { parts, total })
+}
+
+impl Geometry {
+    /// The geometry of a file with this head.
+    pub fn new(alloc: Global, head: &FileHead) -> Result<Geometry, NoMemory>
+        ensures { IfOk result (λ geometry. geometry ≡ map without_attributes head.now.parts) }
+    {
+        geometry_of(alloc, head.parts())
+    }
+
+    /// How many parts there are.
+    pub fn parts(&self) -> u32
+        ensures { result ≡ length self.now }
+    {
+        self.parts.len() as u32
+    }
+
+    /// How many chunks all parts have, at most 2^20.
+    pub fn total(&self) -> u32
+        ensures exact { result ≡ sum_by chunk_count_of self.now }
+        ensures few { result ≤ 2 ^ 20 }
+    {
+        self.total
+    }
+
+    /// What is kept of a part.
+    pub(crate) fn part(&self, part: u32) -> &Part
+        requires { part < length self.now }
+        ensures is_part { IsPart result.now }
+        ensures header { header_of result.now ≡ header_at self.now part }
+        ensures first { result.now.first ≡ chunks_before self.now part }
+        ensures count { result.now.count ≡ chunk_count_of (header_at self.now part) }
+    {
+        &self.parts[part as usize]
+    }
+
+    /// How many chunks a part has.
+    pub fn chunk_count(&self, part: u32) -> u32
+        requires { part < length self.now }
+        ensures { result ≡ chunk_count_of (header_at self.now part) }
+    {
+        self.part(part).count
+    }
+
+    /// Where in the file the eight bytes of a chunk's entry in its table of offsets stand, behind a head of so many bytes.
+    ///
+    /// File Layout, "Component Four: Offset Tables".
+    pub fn entry_at(&self, head_bytes: u64, part: u32, index: u32) -> u64
+        requires head { head_bytes ≤ 2 ^ 24 }
+        requires part { part < length self.now }
+        requires index { index < chunk_count_of (header_at self.now part) }
+        ensures { result ≡ entry_place self.now head_bytes part index }
+    {
+        head_bytes + 8 * u64::from(self.part(part).first + index)
+    }
+
+    /// The region of a chunk, cut at the data window.
+    ///
+    /// File Layout, "Chunk Layout"; Technical Introduction, "Tiles".
+    pub fn region(&self, part: u32, index: u32) -> Box2i
+        requires part { part < length self.now }
+        requires index { index < chunk_count_of (header_at self.now part) }
+        ensures exact { result ≡ region_of (header_at self.now part) index }
+        ensures region { IsRegion result }
+    {
+        self.part(part).region(index)
+    }
+
+    /// The raw bytes of a chunk; of a deep one those of its count table, which has four bytes a pixel.
+    pub fn raw_size(&self, part: u32, index: u32) -> u64
+        requires part { part < length self.now }
+        requires index { index < chunk_count_of (header_at self.now part) }
+        ensures { result ≡ chunk_bytes_of (header_at self.now part) index }
+    {
+        self.part(part).raw_size(index)
+    }
+
+    /// The place of a chunk, as its own fields name it.
+    pub fn place(&self, part: u32, index: u32) -> Place
+        requires part { part < length self.now }
+        requires index { index < chunk_count_of (header_at self.now part) }
+        ensures { result ≡ place_of (header_at self.now part) index }
+    {
+        self.part(part).place(index)
+    }
+
+    /// The chunk with a place; None exactly where no chunk of the part has it.
+    pub fn index_of(&self, part: u32, place: Place) -> Option<u32>
+        requires { part < length self.now }
+        ensures found { IfSome result (λ i. IsIndexOf (header_at self.now part) place i) }
+        ensures none { result ≡ None → (i : ℕ) → i < chunk_count_of (header_at self.now part) → place_of (header_at self.now part) i ≢ place }
+    {
+        self.part(part).index_of(place)
+    }
+}

@@ -1,0 +1,15 @@
+//! Where the chunks of a file lie: the region and the raw size of each, its place among the others, its entry in the
+//! tables of offsets, and the order in which a writer puts all of them.
+#![tactic(auto)]
+
+mod geometry;
+mod index;
+mod part;
+mod place;
+mod region;
+mod sides;
+mod turns;
+
+pub use geometry::Geometry;
+pub use place::Place;
+pub use turns::chunk_at_its_turn;
