@@ -1,7 +1,8 @@
 -- The chunks of all parts in their order.
-use Rattle.std.proofs.Common.{◌≡◌, ℕ, zero, suc, ◌+◌, ◌-◌, ◌*◌, ◌<◌, ◌≤◌, List, [], ◌∷◌, ◌++◌, length, get_or, take, map, Some, sum_by, refl, sym, ap, subst, ◌∙◌, arith}
+use Rattle.std.proofs.Common.{◌≡◌, ℕ, zero, suc, ◌+◌, ◌-◌, ◌*◌, ◌<◌, ◌≤◌, List, [], ◌∷◌, ◌++◌, length, get_or, take, map, Some, sum_by, refl, sym, ap, subst, ◌∙◌, inl, inr, arith}
 use Rattle.std.specs.Prelude.{slice_get}
-use Rattle.std.proofs.lemmas.Option.{slice_get-get_or}
+use Rattle.std.proofs.lemmas.Bool.{cases_lt}
+use Rattle.std.proofs.lemmas.Option.{slice_get-get_or, slice_get_within, some_pair_parts}
 use Rattle.std.proofs.lemmas.List.{get_or_append_left, get_or-append-add, length-append, length-map, get_or-map}
 use Rattle.std.proofs.lemmas.List.Sums.{sum_by-cons, sum_by_more_le}
 use Rattle.exr_chunks.specs.declared.part.Part.{Part}
@@ -102,3 +103,52 @@ at_turn_is hs part turn i p at within low inside e =
     let first = at.first in
     let same : turn ≡ p.first + (turn - p.first) = omega (arith, first, low) in
     ap (slice_get (turns_of hs)) same ∙ turn_is hs part (turn - p.first) p at within inside ∙ ap (λ n. Some (part, n)) (sym e)
+
+-- the part of a turn, and how many turns of that part come before
+record IsTurnIn (hs : List Header) (turn part k : ℕ) : Type 0 where
+  within : part < length hs
+  low : k < chunk_count_of (header_at hs part)
+  is : turn ≡ chunks_before hs part + k
+
+part_of : (hs : List Header) (turn : ℕ) → turn < sum_by chunk_count_of hs → (part : ℕ) × (k : ℕ) × IsTurnIn hs turn part k
+part_of [] turn w = absurd (omega (arith, w))
+part_of (h ∷ hs) turn w =
+    let e = sum_by-cons chunk_count_of h hs in
+    elim (cases_lt turn (chunk_count_of h)) [
+      | inl lt ↦ (0, turn, record { within = omega arith; low = lt; is = omega arith })
+      | inr ge ↦
+          let r = part_of hs (turn - chunk_count_of h) (omega (arith, e, w, ge)) in
+          let i : IsTurnIn hs (turn - chunk_count_of h) r.0 r.1 = r.2 in
+          let within = i.within in
+          let is = i.is in
+          let f = sum_by-cons chunk_count_of h (take r.0 hs) in
+          (suc r.0, r.1, record { within = omega (arith, within); low = i.low; is = omega (arith, is, f, ge) })
+    ]
+
+-- a chunk stands at no turn but its own
+pub only_turn : (hs : List Header) (part i m turn : ℕ) (p : Part) → IsPartAt hs part p → part < length hs → i < p.count → m ≡ mirrored (is_falling p.order) p.across p.down i → slice_get (turns_of hs) turn ≡ Some (part, i) → turn ≡ p.first + m
+only_turn hs part i m turn p at within low e there =
+    let many = turns_length 0 hs in
+    let inside : turn < length (turns_of hs) = slice_get_within (turns_of hs) turn (part, i) there in
+    let r = part_of hs turn (omega (arith, many, inside)) in
+    let k = r.1 in
+    let s : IsTurnIn hs turn r.0 k = r.2 in
+    let other : get_or (turns_of hs) turn (0, 0) ≡ (0 + r.0, get_or (part_order (header_at hs r.0)) k 0) =
+    ap (λ n. get_or (turns_of hs) n (0, 0)) s.is ∙ turn_at 0 r.0 hs k (0, 0) s.within s.low in
+    let both = sym there ∙ slice_get-get_or (turns_of hs) turn (0, 0) inside ∙ ap (λ (x : ℕ × ℕ). Some x) other in
+    let parts = some_pair_parts part (0 + r.0) i (get_or (part_order (header_at hs r.0)) k 0) both in
+    let same : r.0 ≡ part = omega (arith, parts.0) in
+    let count = at.count in
+    let first = at.first in
+    let below : k < chunk_count_of (header_at hs part) = subst (λ n. k < chunk_count_of (header_at hs n)) same s.low in
+    let inside_part : k < p.count = omega (arith, below, count) in
+    let is : turn ≡ chunks_before hs part + k = s.is ∙ ap (λ n. chunks_before hs n + k) same in
+    let turn_k : turn ≡ p.first + k = omega (arith, is, first) in
+    let stands = turn_is hs part k p at within inside_part in
+    let f = is_falling p.order in
+    let index = (some_pair_parts part part i (mirrored f p.across p.down k) (sym there ∙ ap (slice_get (turns_of hs)) turn_k ∙ stands)).1 in
+    let all = product p at.is_part in
+    let c = cut p k at.is_part inside_part in
+    let back = mirrored_back f p.across p.down k c.across (omega (arith, all, inside_part)) in
+    let same_k : m ≡ k = e ∙ ap (mirrored f p.across p.down) index ∙ back in
+    omega (arith, turn_k, same_k)

@@ -8,8 +8,10 @@ mod part;
 mod place;
 mod region;
 mod sides;
+#[cfg(test)]
+mod tests;
 mod turns;
 
 pub use geometry::Geometry;
 pub use place::Place;
-pub use turns::chunk_at_its_turn;
+pub use turns::{chunk_at_its_turn, turn_of_its_chunk};

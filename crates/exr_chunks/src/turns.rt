@@ -1,6 +1,6 @@
 //! The order in which a writer puts the chunks of a file, and back from a place in it to the chunk.
 
-ghost use Rattle.std.specs.Prelude.{◌≡◌, ◌<◌, ◌≤◌, ◌+◌, length, slice_get, sum_by};
+ghost use Rattle.std.specs.Prelude.{◌≡◌, ◌<◌, ◌≤◌, ◌+◌, ℕ, length, slice_get, sum_by};
 ghost use Rattle.exr_chunks.specs.Heads.{chunk_count_of};
 ghost use Rattle.exr_chunks.specs.Part.{IsPart};
 ghost use Rattle.exr_chunks.specs.Region.{header_at};
@@ -46,6 +46,8 @@ impl Geometry {
         requires part { part < length self.now }
         requires index { index < chunk_count_of (header_at self.now part) }
         ensures exact { slice_get (turns_of self.now) result ≡ Some (part, index) }
+        // The chunk stands at no other turn.
+        ensures only { (turn : ℕ) → slice_get (turns_of self.now) turn ≡ Some (part, index) → turn ≡ result }
         ensures within { result < sum_by chunk_count_of self.now }
     {
         let here = self.part(part);
@@ -93,4 +95,13 @@ pub fn chunk_at_its_turn(geometry: &Geometry, part: u32, index: u32) -> (u32, u3
     ensures index { result.1 ≡ index }
 {
     geometry.at_turn(geometry.turn_of(part, index))
+}
+
+/// The turn of the chunk at a turn is that turn.
+pub fn turn_of_its_chunk(geometry: &Geometry, turn: u32) -> u32
+    requires { turn < sum_by chunk_count_of geometry.now }
+    ensures { result ≡ turn }
+{
+    let (part, index) = geometry.at_turn(turn);
+    geometry.turn_of(part, index)
 }

@@ -1,0 +1,311 @@
+//! Worked values: tiles of two by two, falling blocks of 32 lines, and two parts.
+
+use super::*;
+use exr_base::Box2i;
+use exr_header::read_head;
+use std::alloc::Global;
+use std::test::Fail;
+
+/// What the header of a part says of its chunks, each number in one byte.
+#[derive(Clone, Copy)]
+struct Picture {
+    /// The last column and the last line; the first ones are 0.
+    right: u8,
+    bottom: u8,
+    method: u8,
+    order: u8,
+}
+
+const NO: u8 = 0;
+
+const PIZ: u8 = 4;
+
+const RISING: u8 = 0;
+
+const FALLING: u8 = 1;
+
+/// The attributes that each part has, of one HALF channel.
+fn attributes(alloc: Global, picture: Picture) -> Result<Vec<u8>, Fail> {
+    let Picture {
+        right,
+        bottom,
+        method,
+        order,
+    } = picture;
+    let window = [0, 0, 0, 0, 0, 0, 0, 0, right, 0, 0, 0, bottom, 0, 0, 0];
+    let mut bytes = b"channels\0chlist\0\x13\0\0\0Y\0\x01\0\0\0\0\0\0\0\x01\0\0\0\x01\0\0\0\0\
+          compression\0compression\0\x01\0\0\0"
+        .to_vec(alloc)?;
+    bytes.push(method)?;
+    bytes.extend_from_slice(b"dataWindow\0box2i\0\x10\0\0\0")?;
+    bytes.extend_from_slice(&window)?;
+    bytes.extend_from_slice(b"displayWindow\0box2i\0\x10\0\0\0")?;
+    bytes.extend_from_slice(&window)?;
+    bytes.extend_from_slice(b"lineOrder\0lineOrder\0\x01\0\0\0")?;
+    bytes.push(order)?;
+    bytes.extend_from_slice(
+        b"pixelAspectRatio\0float\0\x04\0\0\0\0\0\x80?screenWindowCenter\0v2f\0\
+          \x08\0\0\0\0\0\0\0\0\0\0\0screenWindowWidth\0float\0\x04\0\0\0\0\0\x80?",
+    )?;
+    Ok(bytes)
+}
+
+/// The geometry of the head that these bytes spell.
+fn read(alloc: Global, bytes: &[u8]) -> Result<Geometry, Fail> {
+    let (head, _) = read_head(alloc, bytes)?;
+    Ok(Geometry::new(alloc, &head)?)
+}
+
+/// A file of one part of scan lines.
+fn lines(alloc: Global, picture: Picture) -> Result<Geometry, Fail> {
+    let mut bytes = b"v/1\x01\x02\0\0\0".to_vec(alloc)?;
+    bytes.extend_from_slice(&attributes(alloc, picture)?)?;
+    bytes.push(0)?;
+    read(alloc, &bytes)
+}
+
+/// A file of five by five pixels in tiles of two by two.
+fn tiles(alloc: Global, order: u8) -> Result<Geometry, Fail> {
+    let picture = Picture {
+        right: 4,
+        bottom: 4,
+        method: NO,
+        order,
+    };
+    let mut bytes = b"v/1\x01\x02\x02\0\0".to_vec(alloc)?;
+    bytes.extend_from_slice(&attributes(alloc, picture)?)?;
+    bytes.extend_from_slice(b"tiles\0tiledesc\0\x09\0\0\0\x02\0\0\0\x02\0\0\0\0\0")?;
+    read(alloc, &bytes)
+}
+
+/// A file of two parts without compression: three rising lines of two pixels, and two falling lines of one.
+fn two_parts(alloc: Global) -> Result<Geometry, Fail> {
+    let mut bytes = b"v/1\x01\x02\x10\0\0".to_vec(alloc)?;
+    for (name, right, bottom, order, count) in [(b'a', 1, 2, RISING, 3), (b'b', 0, 1, FALLING, 2)] {
+        let picture = Picture {
+            right,
+            bottom,
+            method: NO,
+            order,
+        };
+        bytes.extend_from_slice(&attributes(alloc, picture)?)?;
+        bytes.extend_from_slice(b"name\0string\0\x01\0\0\0")?;
+        bytes.push(name)?;
+        bytes.extend_from_slice(
+            b"type\0string\0\x0d\0\0\0scanlineimagechunkCount\0int\0\x04\0\0\0",
+        )?;
+        bytes.extend_from_slice(&[count, 0, 0, 0, 0])?;
+    }
+    bytes.push(0)?;
+    read(alloc, &bytes)
+}
+
+/// All that is said of a chunk.
+#[derive(Clone, Copy, Debug, PartialEq, Eq)]
+struct Facts {
+    /// The first column and line of its region, and the last ones.
+    region: (i32, i32, i32, i32),
+    raw_size: u64,
+    place: Place,
+    entry: u64,
+    turn: u32,
+}
+
+/// What is said of a chunk behind a head of 100 bytes; None where the file has no such chunk.
+fn facts_of(geometry: &Geometry, part: u32, index: u32) -> Option<Facts> {
+    if part >= geometry.parts() {
+        return None;
+    }
+    if index >= geometry.chunk_count(part) {
+        return None;
+    }
+    let Box2i { x0, y0, x1, y1 } = geometry.region(part, index);
+    Some(Facts {
+        region: (x0, y0, x1, y1),
+        raw_size: geometry.raw_size(part, index),
+        place: geometry.place(part, index),
+        entry: geometry.entry_at(100, part, index),
+        turn: geometry.turn_of(part, index),
+    })
+}
+
+/// The chunk of a part with a place.
+fn index_of(geometry: &Geometry, part: u32, place: Place) -> Option<u32> {
+    if part < geometry.parts() {
+        geometry.index_of(part, place)
+    } else {
+        None
+    }
+}
+
+/// The chunk at a turn; None where the file has fewer chunks.
+fn at_turn(geometry: &Geometry, turn: u32) -> Option<(u32, u32)> {
+    if turn < geometry.total() {
+        Some(geometry.at_turn(turn))
+    } else {
+        None
+    }
+}
+
+/// A tile of the level 0.
+fn tile(tx: u32, ty: u32) -> Place {
+    Place::Tile {
+        tx,
+        ty,
+        lx: 0,
+        ly: 0,
+    }
+}
+
+#[test]
+fn tiles_of_two_by_two(rt: HostRuntime) -> Result<(), Fail> {
+    let geometry = tiles(rt.alloc(), RISING)?;
+    assert_eq!(rt; geometry.parts(), 1);
+    assert_eq!(rt; geometry.total(), 9);
+    let chunks = [
+        ((0, 0, 1, 1), 8, tile(0, 0), 100, 0),
+        ((2, 0, 3, 1), 8, tile(1, 0), 108, 1),
+        ((4, 0, 4, 1), 4, tile(2, 0), 116, 2),
+        ((0, 2, 1, 3), 8, tile(0, 1), 124, 3),
+        ((2, 2, 3, 3), 8, tile(1, 1), 132, 4),
+        ((4, 2, 4, 3), 4, tile(2, 1), 140, 5),
+        ((0, 4, 1, 4), 4, tile(0, 2), 148, 6),
+        ((2, 4, 3, 4), 4, tile(1, 2), 156, 7),
+        ((4, 4, 4, 4), 2, tile(2, 2), 164, 8),
+    ];
+    for (region, raw_size, place, entry, turn) in chunks {
+        let want = Facts {
+            region,
+            raw_size,
+            place,
+            entry,
+            turn,
+        };
+        // chunks of the one part that rises stand at their own indexes
+        assert_eq!(rt; facts_of(&geometry, 0, turn), Some(want));
+        assert_eq!(rt; index_of(&geometry, 0, place), Some(turn));
+    }
+    assert_eq!(rt; facts_of(&geometry, 0, 9), None);
+    Ok(())
+}
+
+#[test]
+fn places_of_no_chunk(rt: HostRuntime) -> Result<(), Fail> {
+    let geometry = tiles(rt.alloc(), RISING)?;
+    for (tx, ty, lx, ly) in [(3, 0, 0, 0), (0, 3, 0, 0), (0, 0, 1, 0), (0, 0, 0, 1)] {
+        assert_eq!(rt;
+            index_of(&geometry, 0, Place::Tile { tx, ty, lx, ly }),
+            None
+        );
+    }
+    assert_eq!(rt; index_of(&geometry, 0, Place::Line { y: 0 }), None);
+    let geometry = lines(rt.alloc(), LONG)?;
+    for y in [-32, -1, 1, 31, 33, 69, 70, 96] {
+        assert_eq!(rt; index_of(&geometry, 0, Place::Line { y }), None);
+    }
+    assert_eq!(rt; index_of(&geometry, 0, tile(0, 0)), None);
+    Ok(())
+}
+
+/// Sixteen by seventy pixels in blocks of 32 lines that fall.
+const LONG: Picture = Picture {
+    right: 15,
+    bottom: 69,
+    method: PIZ,
+    order: FALLING,
+};
+
+#[test]
+fn falling_blocks(rt: HostRuntime) -> Result<(), Fail> {
+    let geometry = lines(rt.alloc(), LONG)?;
+    assert_eq!(rt; geometry.total(), 3);
+    let chunks = [
+        (0, 31, 1024, 100, 2),
+        (32, 63, 1024, 108, 1),
+        (64, 69, 192, 116, 0),
+    ];
+    for (index, (y0, y1, raw_size, entry, turn)) in chunks.into_iter().enumerate() {
+        let index = index as u32;
+        let place = Place::Line { y: y0 };
+        let want = Facts {
+            region: (0, y0, 15, y1),
+            raw_size,
+            place,
+            entry,
+            turn,
+        };
+        assert_eq!(rt; facts_of(&geometry, 0, index), Some(want));
+        assert_eq!(rt; index_of(&geometry, 0, place), Some(index));
+    }
+    Ok(())
+}
+
+#[test]
+fn entries_of_two_parts(rt: HostRuntime) -> Result<(), Fail> {
+    let geometry = two_parts(rt.alloc())?;
+    assert_eq!(rt; geometry.parts(), 2);
+    assert_eq!(rt; geometry.total(), 5);
+    // the part, the index, the line and the last column, and what follows
+    let chunks = [
+        (0, 0, 0, 1, 4, 100, 0),
+        (0, 1, 1, 1, 4, 108, 1),
+        (0, 2, 2, 1, 4, 116, 2),
+        (1, 0, 0, 0, 2, 124, 4),
+        (1, 1, 1, 0, 2, 132, 3),
+    ];
+    for (part, index, y, right, raw_size, entry, turn) in chunks {
+        let want = Facts {
+            region: (0, y, right, y),
+            raw_size,
+            place: Place::Line { y },
+            entry,
+            turn,
+        };
+        assert_eq!(rt; facts_of(&geometry, part, index), Some(want));
+    }
+    assert_eq!(rt; index_of(&geometry, 1, Place::Line { y: 1 }), Some(1));
+    assert_eq!(rt; index_of(&geometry, 1, Place::Line { y: 2 }), None);
+    Ok(())
+}
+
+/// The chunks of a file, one turn after another.
+fn order(alloc: Global, geometry: &Geometry) -> Result<Vec<(u32, u32)>, Fail> {
+    let mut chunks = Vec::new(alloc);
+    for turn in 0..geometry.total() {
+        chunks.push(at_turn(geometry, turn).ok_or("a chunk")?)?;
+    }
+    Ok(chunks)
+}
+
+#[test]
+fn chunks_in_their_order(rt: HostRuntime) -> Result<(), Fail> {
+    let alloc = rt.alloc();
+    let blocks = lines(alloc, LONG)?;
+    assert_eq!(rt;
+        order(alloc, &blocks)?.as_slice(),
+        [(0, 2), (0, 1), (0, 0)].as_slice()
+    );
+    let parts = two_parts(alloc)?;
+    assert_eq!(rt;
+        order(alloc, &parts)?.as_slice(),
+        [(0, 0), (0, 1), (0, 2), (1, 1), (1, 0)].as_slice()
+    );
+    // rows of tiles fall, and each runs from left to right
+    let falling = tiles(alloc, FALLING)?;
+    assert_eq!(rt;
+        order(alloc, &falling)?.as_slice(),
+        [
+            (0, 6),
+            (0, 7),
+            (0, 8),
+            (0, 3),
+            (0, 4),
+            (0, 5),
+            (0, 0),
+            (0, 1),
+            (0, 2)
+        ]
+        .as_slice()
+    );
+    Ok(())
+}
