@@ -5,3 +5,4 @@ pub mod Orders
 pub mod Parts
 pub mod Pieces
 pub mod Turning
+pub mod Windows

@@ -6,6 +6,7 @@ ghost use Rattle.exr_chunks.specs.Heads.{IsPicture, chunk_count_of};
 ghost use Rattle.exr_chunks.specs.Part.{without_attributes, header_of, IsPart};
 ghost use Rattle.exr_chunks.specs.Region.{header_at, region_of, chunk_bytes_of, place_of, IsIndexOf};
 ghost use Rattle.exr_chunks.specs.Table.{chunks_before, entry_place};
+ghost use Rattle.exr_chunks.specs.Window.{chunks_of_window};
 
 use crate::part::Part;
 use crate::place::Place;
@@ -16,9 +17,9 @@ use std::marker::Model;
 
 /// Where the chunks of all parts of a file lie, seen as the headers of its parts without their attributes.
 ///
-/// Parts, indexes and turns count from 0. An index is a chunk's place in its part's table of offsets. But for `new`
-/// the calls take no memory, and each takes the same time whatever the head, but for `at_turn`, which
-/// searches the parts by halves, and `raw_size`, which goes over the channels.
+/// Parts, indexes and turns count from 0. An index is a chunk's place in its part's table of offsets. But for `new` and
+/// `chunks_of` the calls take no memory, and each takes the same time whatever the head, but for `at_turn`, which
+/// searches the parts by halves, `raw_size`, which goes over the channels, and `chunks_of`, which goes over its answer.
 #[derive(Drop, Debug)]
 pub struct Geometry {
     parts: Vec<Part>,
@@ -145,5 +146,16 @@ impl Geometry {
         ensures none { result ≡ None → (i : ℕ) → i < chunk_count_of (header_at self.now part) → place_of (header_at self.now part) i ≢ place }
     {
         self.part(part).index_of(place)
+    }
+
+    /// The chunks whose regions a window meets, rising; an empty window meets none.
+    ///
+    /// They are found from the corners of the window, with one step for each of them and one for each row that they
+    /// stand in; no other chunk is looked at.
+    pub fn chunks_of(&self, alloc: Global, part: u32, window: Box2i) -> Result<Vec<u32>, NoMemory>
+        requires { part < length self.now }
+        ensures { IfOk result (λ chunks. chunks.items ≡ chunks_of_window (header_at self.now part) window) }
+    {
+        self.part(part).chunks_of(alloc, window)
     }
 }

@@ -11,6 +11,7 @@ mod sides;
 #[cfg(test)]
 mod tests;
 mod turns;
+mod window;
 
 pub use geometry::Geometry;
 pub use place::Place;
