@@ -309,3 +309,52 @@ fn chunks_in_their_order(rt: HostRuntime) -> Result<(), Fail> {
     );
     Ok(())
 }
+
+/// The chunks of part 0 that a window meets, with its least and its greatest corner.
+fn met(
+    alloc: Global,
+    geometry: &Geometry,
+    window: (i32, i32, i32, i32),
+) -> Result<Option<Vec<u32>>, Fail> {
+    if geometry.parts() == 0 {
+        return Ok(None);
+    }
+    let (x0, y0, x1, y1) = window;
+    let window = Box2i { x0, y0, x1, y1 };
+    Ok(Some(geometry.chunks_of(alloc, 0, window)?))
+}
+
+// A window that lies outside, or that has no pixel, meets nothing.
+#[test]
+fn chunks_of_windows(rt: HostRuntime) -> Result<(), Fail> {
+    let alloc = rt.alloc();
+    let far = 1 << 30;
+    let tiled: [((i32, i32, i32, i32), &[u32]); 9] = [
+        ((4, 4, 4, 4), &[8]),
+        ((0, 0, 4, 4), &[0, 1, 2, 3, 4, 5, 6, 7, 8]),
+        ((1, 1, 2, 2), &[0, 1, 3, 4]),
+        ((2, 0, 3, 0), &[1]),
+        ((0, 3, 4, 3), &[3, 4, 5]),
+        ((-far, -far, far, far), &[0, 1, 2, 3, 4, 5, 6, 7, 8]),
+        ((5, 0, 9, 4), &[]),
+        ((3, 3, 2, 2), &[]),
+        ((i32::MAX, i32::MAX, i32::MIN, i32::MIN), &[]),
+    ];
+    let geometry = tiles(alloc, RISING)?;
+    for (window, chunks) in tiled {
+        let found = met(alloc, &geometry, window)?.ok_or("a part")?;
+        assert_eq!(rt; found.as_slice(), chunks, "{window:?}");
+    }
+    let blocks: [((i32, i32, i32, i32), &[u32]); 4] = [
+        ((0, 31, 0, 32), &[0, 1]),
+        ((15, 69, 15, 69), &[2]),
+        ((0, 0, 15, 69), &[0, 1, 2]),
+        ((0, 70, 15, 99), &[]),
+    ];
+    let geometry = lines(alloc, LONG)?;
+    for (window, chunks) in blocks {
+        let found = met(alloc, &geometry, window)?.ok_or("a part")?;
+        assert_eq!(rt; found.as_slice(), chunks, "{window:?}");
+    }
+    Ok(())
+}
