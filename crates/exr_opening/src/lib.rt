@@ -3,7 +3,7 @@
 
 mod opening;
 
-pub use opening::{OpenFault, Opened, open_head};
+pub use opening::{OpenFault, Opened, open_head, read_piece};
 
 #[cfg(test)]
 mod tests;

@@ -133,13 +133,13 @@ fn longer<S: Source>(
     ensures read { OnlyReads result (Rose (S.means.faults source.old) (S.means.faults source.new)) }
 {
     let at = bytes.len();
-    let piece = piece(alloc, source, at as u64, wanted - at)?;
+    let piece = read_piece(alloc, source, at as u64, wanted - at)?;
     bytes.extend_from_slice(&piece)?;
     Ok(bytes)
 }
 
-/// At most `size` bytes of a source from a place on, fewer where it ends.
-fn piece<S: Source>(
+/// At most `size` bytes of a source from a place on, fewer where it ends. Of the faults Read alone comes.
+pub fn read_piece<S: Source>(
     alloc: Global,
     source: &mut S,
     at: u64,

@@ -1,0 +1,4 @@
+pub mod Bare
+pub mod Whole
+pub mod Entries
+pub mod Filled

@@ -1,0 +1,144 @@
+//! A file that is read chunk by chunk.
+
+ghost use Rattle.std.specs.Prelude.{◌≡◌, ◌≤◌, ◌<◌, ◌^◌, false, IsTrue, IfOk, IfErr, length, map};
+ghost use Rattle.exr_outside.specs.Count.{Rose};
+ghost use Rattle.exr_outside.specs.Source.{IsSameSource};
+ghost use Rattle.exr_header.specs.Kind.{is_deep};
+ghost use Rattle.exr_chunks.specs.Heads.{chunk_count_of};
+ghost use Rattle.exr_chunks.specs.Part.{without_attributes};
+ghost use Rattle.exr_chunks.specs.Region.{header_at, region_of};
+ghost use Rattle.exr_block.specs.Sizes.{sizes_fit};
+ghost use Rattle.exr_stream.specs.Chunk.{chunk_of};
+ghost use Rattle.exr_stream.specs.Stream.{HasHead, IsSameStream, IsWhyNot, OwesRead, Fetches, OwesFetch};
+
+use crate::fault::FetchFault;
+use crate::front::Front;
+use exr_base::Refusal;
+use exr_block::Body;
+use exr_chunks::Geometry;
+use exr_header::FileHead;
+use exr_opening::OpenFault;
+use exr_outside::{Source, World};
+use std::alloc::Global;
+use std::marker::{Model, PhantomData};
+
+/// A file of a world that is read chunk by chunk. The head and the tables of offsets were read when it was opened.
+#[derive(Debug)]
+pub struct Stream<W: World, S: Source> {
+    source: S,
+    front: Front,
+    /// The chunk that was read last; kept for its room.
+    piece: Vec<u8>,
+    world: PhantomData<W>,
+}
+
+impl<W: World, S: Source> Model for Stream<W, S> {
+    ghost use Rattle.std.specs.Prelude.{IsTrue};
+    ghost use Rattle.exr_stream.specs.Stream.{StreamView, IsFront, IsFrontOf};
+
+    ghost Value = { StreamView S };
+
+    ghost view = { λ s. record { source = s.source; head = s.front.head; head_bytes = s.front.head_bytes } };
+
+    ghost invariant = { λ s. IsFront s.front × (IsTrue S.means.tells → IsFrontOf s.front (S.means.content s.source)) };
+}
+
+/// A source that could not be opened, and why.
+#[derive(Debug)]
+pub struct OpenStop<S> {
+    pub source: S,
+    pub cause: Refusal<OpenFault>,
+}
+
+impl<W: World, S: Source> Stream<W, S> {
+    /// Opens a source: its head and its tables of offsets are read. A source that could not be opened is given back.
+    ///
+    /// At most twice the bytes of the head and 64 KiB are read, and the tables as far as they are there.
+    pub fn open(alloc: Global, mut source: S) -> Result<Stream<W, S>, OpenStop<S>>
+        ensures head { IfOk result (λ stream. HasHead S.means stream) }
+        ensures small { IfOk result (λ stream. stream.head_bytes ≤ 2 ^ 24) }
+        ensures fault { IsTrue S.means.tells → IfErr result (λ stop. IsWhyNot stop.cause (S.means.content source)) }
+        ensures same { IfOk result (λ stream. IsSameSource S.means source stream.source) }
+        ensures given_back { IfErr result (λ stop. IsSameSource S.means source stop.source) }
+        ensures later { IfOk result (λ stream. S.means.faults source ≤ S.means.faults stream.source) }
+        ensures given_back_later { IfErr result (λ stop. S.means.faults source ≤ S.means.faults stop.source) }
+        ensures read { IfErr result (λ stop. OwesRead stop.cause (Rose (S.means.faults source) (S.means.faults stop.source))) }
+    {
+        match Front::read(alloc, &mut source) {
+            Ok(front) => Ok(Stream {
+                source,
+                front,
+                piece: Vec::new(alloc),
+                world: PhantomData,
+            }),
+            Err(cause) => Err(OpenStop { source, cause }),
+        }
+    }
+
+    /// The head of the file.
+    pub fn head(&self) -> &FileHead
+        ensures head { result.now ≡ self.now.head }
+        ensures small { self.now.head_bytes ≤ 2 ^ 24 }
+    {
+        &self.front.head
+    }
+
+    /// Where the chunks of the file lie.
+    pub fn geometry(&self) -> &Geometry
+        ensures { result.now ≡ map without_attributes self.now.head.parts }
+    {
+        &self.front.geometry
+    }
+
+    /// How many bytes the head fills, at most 2^24.
+    pub fn head_bytes(&self) -> u64
+        ensures { result ≡ self.now.head_bytes }
+    {
+        self.front.head_bytes as u64
+    }
+
+    /// The name of the source.
+    pub fn name(&self) -> &str
+        ensures { result.now ≡ S.means.name self.now.source }
+    {
+        self.source.name()
+    }
+
+    /// The source, given back.
+    pub fn into_source(self) -> S
+        ensures { result ≡ self.source }
+    {
+        let Stream {
+            source,
+            front: _front,
+            piece: _piece,
+            world: _world,
+        } = self;
+        source
+    }
+
+    /// The data of a chunk of a part that is not deep: as they stand in the file, or the first thing that is wrong with
+    /// the chunk.
+    ///
+    /// The fields of the chunk and its data are read in one piece, of at most as many bytes as there are.
+    pub fn fetch(
+        &mut self,
+        alloc: Global,
+        part: u32,
+        index: u32,
+    ) -> Result<Body, Refusal<FetchFault>>
+        requires part { part < length self.now.head.parts }
+        requires index { index < chunk_count_of (header_at self.now.head.parts part) }
+        requires flat { is_deep (header_at self.now.head.parts part).kind ≡ false }
+        ensures chunk { IsTrue S.means.tells → Fetches result
+            (chunk_of (S.means.content self.old.source) self.old.head self.old.head_bytes part index) }
+        ensures fits { IfOk result (λ body. IsTrue (sizes_fit (header_at self.old.head.parts part).method
+            (header_at self.old.head.parts part).channels (region_of (header_at self.old.head.parts part) index) body)) }
+        ensures same { IsSameStream S.means self.old self.new }
+        ensures later { S.means.faults self.old.source ≤ S.means.faults self.new.source }
+        ensures read { OwesFetch result (Rose (S.means.faults self.old.source) (S.means.faults self.new.source)) }
+    {
+        self.front
+            .fetch(alloc, &mut self.source, &mut self.piece, part, index)
+    }
+}
