@@ -17,11 +17,11 @@ use Rattle.exr_header.specs.Head.{Head, flags_of, kind_read, part_read}
 use Rattle.exr_header.specs.Spells.{AreJudged, IsHead}
 use Rattle.exr_header.proofs.Judged.{passed_from}
 
-passed_test : (b : Bool) (f : HeaderFault) (u : Unit {0}) → tested b f ≡ Ok u → b ≡ true
+pub passed_test : (b : Bool) (f : HeaderFault) (u : Unit {0}) → tested b f ≡ Ok u → b ≡ true
 passed_test true f u e = refl
 passed_test false f u e = absurd cc
 
-is_within : (m n : ℕ) → nat_le m n ≡ true → m ≤ n
+pub is_within : (m n : ℕ) → nat_le m n ≡ true → m ≤ n
 is_within m n e = grind (arith, nat_tests)
 
 sizes_few : (earlier : List Header) (h : Header) (u : Unit {0}) → sizes_judged earlier h ≡ Ok u → sum_by chunk_count_of earlier + chunk_count_of h ≤ 2 ^ 20

@@ -1,8 +1,11 @@
 pub mod Few
 pub mod Indexes
+pub mod Largest
 pub mod Listed
+pub mod Measured
 pub mod Orders
 pub mod Parts
 pub mod Pieces
+pub mod Samples
 pub mod Turning
 pub mod Windows

@@ -15,6 +15,8 @@ use Rattle.exr_chunks.specs.declared.place.Place.TheVariants.{Line, Tile}
 use Rattle.exr_chunks.specs.Heads.{Header, Tiles, AreTiles, IsPicture, is_deep, pieces, columns_of, rows_of, chunk_width, chunk_height, chunk_count_of}
 use Rattle.exr_chunks.specs.Part.{without_attributes, header_of, IsPart}
 use Rattle.exr_chunks.specs.Region.{across_of, down_of, start_of, end_of, region_of, chunk_bytes_of, place_among, place_of}
+use Rattle.exr_chunks.specs.Sizes.{IsMeasured}
+use Rattle.exr_chunks.proofs.Measured.{bare_measured}
 use Rattle.exr_chunks.proofs.Pieces.{piece_within, piece_side, span_is}
 
 -- a size is 1 to 2^30
@@ -67,7 +69,7 @@ pub record IsCut (p : Part) (i : ℕ) : Type 0 where
   pub column : i % p.across * p.columns < span_of p.window.x0 p.window.x1
   pub row : i / p.across * p.rows < span_of p.window.y0 p.window.y1
 
-first_factor : (i a b : ℕ) → i < a * b → 0 < a
+pub first_factor : (i a b : ℕ) → i < a * b → 0 < a
 first_factor i zero b h = absurd (omega arith)
 first_factor i (suc a) b h = omega arith
 
@@ -197,10 +199,11 @@ pub header_is : (h : Header) (p : Part) → p.kind ≡ h.kind → p.channels.ite
 unfolding header_of
 header_is h p a b c d e f = rw (a, b, c, d, e, f) refl
 
-pub part_is : (h : Header) (p : Part) → IsPicture h → header_of p ≡ without_attributes h → p.columns ≡ chunk_width h → p.rows ≡ chunk_height h → p.across ≡ across_of h → p.down ≡ down_of h → p.count ≡ chunk_count_of h
+pub part_is : (h : Header) (p : Part) → IsPicture h → IsMeasured h → header_of p ≡ without_attributes h → p.columns ≡ chunk_width h → p.rows ≡ chunk_height h → p.across ≡ across_of h → p.down ≡ down_of h → p.count ≡ chunk_count_of h
     → p.first + chunk_count_of h ≤ 2 ^ 20 → IsPart p
-part_is h p picture e columns rows across down count few = record {
+part_is h p picture measured e columns rows across down count few = record {
   picture = subst IsPicture (sym e) (bare_picture h picture);
+  measured = subst IsMeasured (sym e) (bare_measured h measured);
   columns = columns ∙ sym (ap chunk_width e);
   rows = rows ∙ sym (ap chunk_height e);
   across = across ∙ sym (ap across_of e);

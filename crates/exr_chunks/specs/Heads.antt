@@ -6,5 +6,5 @@ pub use Rattle.exr_header.specs.declared.kind.LineOrder.{LineOrder}
 pub use Rattle.exr_header.specs.declared.kind.LineOrder.TheVariants.{Increasing, Decreasing, Random}
 pub use Rattle.exr_header.specs.declared.kind.Tiles.{Tiles}
 pub use Rattle.exr_header.specs.Kind.{is_deep}
-pub use Rattle.exr_header.specs.Picture.{pieces, columns_of, rows_of, chunk_width, chunk_height, AreTiles, IsPicture}
-unfoldable pub use Rattle.exr_header.specs.Picture.{chunk_count_of}
+pub use Rattle.exr_header.specs.Picture.{pieces, columns_of, rows_of, chunk_width, chunk_height, is_sampled_well, AreTiles, IsPicture}
+unfoldable pub use Rattle.exr_header.specs.Picture.{chunk_count_of, raw_chunk_of}

@@ -3,6 +3,7 @@ use Rattle.std.specs.Prelude.{◌≡◌, ◌+◌, ◌≤◌, ◌<◌, ◌^◌, �
 use Rattle.exr_chunks.specs.declared.part.Part.{Part}
 use Rattle.exr_chunks.specs.Heads.{Header, chunk_width, chunk_height, chunk_count_of, IsPicture}
 use Rattle.exr_chunks.specs.Region.{across_of, down_of}
+use Rattle.exr_chunks.specs.Sizes.{IsMeasured}
 use Rattle.exr_chunks.specs.Table.{chunks_before}
 
 -- a header without what a geometry does not keep
@@ -23,6 +24,7 @@ header_of p = record {
 -- the numbers of a part are those of its header
 pub record IsPart (p : Part) : Type 0 where
   pub picture : IsPicture (header_of p)
+  pub measured : IsMeasured (header_of p)
   pub columns : p.columns ≡ chunk_width (header_of p)
   pub rows : p.rows ≡ chunk_height (header_of p)
   pub across : p.across ≡ across_of (header_of p)

@@ -5,6 +5,7 @@ ghost use Rattle.exr_base.specs.Shape.{IsRegion};
 ghost use Rattle.exr_chunks.specs.Heads.{IsPicture, chunk_count_of};
 ghost use Rattle.exr_chunks.specs.Part.{without_attributes, header_of, IsPart};
 ghost use Rattle.exr_chunks.specs.Region.{header_at, region_of, chunk_bytes_of, place_of, IsIndexOf};
+ghost use Rattle.exr_chunks.specs.Sizes.{IsMeasured};
 ghost use Rattle.exr_chunks.specs.Table.{chunks_before, entry_place};
 ghost use Rattle.exr_chunks.specs.Window.{chunks_of_window};
 
@@ -41,6 +42,7 @@ impl Model for Geometry {
 /// The geometry of the parts with these headers.
 fn geometry_of(alloc: Global, headers: &[Header]) -> Result<Geometry, NoMemory>
     requires pictures { All IsPicture headers.now }
+    requires measured { All IsMeasured headers.now }
     requires few { sum_by chunk_count_of headers.now ≤ 2 ^ 20 }
     requires short { length headers.now ≤ 1024 }
     ensures { IfOk result (λ geometry. geometry ≡ map without_attributes headers.now) }
@@ -121,11 +123,13 @@ impl Geometry {
         self.part(part).region(index)
     }
 
-    /// The raw bytes of a chunk; of a deep one those of its count table, which has four bytes a pixel.
+    /// The raw bytes of a chunk; of a deep one those of its count table, which has four bytes a pixel. No chunk of a head
+    /// that was accepted has more than 2^26.
     pub fn raw_size(&self, part: u32, index: u32) -> u64
         requires part { part < length self.now }
         requires index { index < chunk_count_of (header_at self.now part) }
-        ensures { result ≡ chunk_bytes_of (header_at self.now part) index }
+        ensures exact { result ≡ chunk_bytes_of (header_at self.now part) index }
+        ensures small { result ≤ 2 ^ 26 }
     {
         self.part(part).raw_size(index)
     }

@@ -4,6 +4,7 @@
 
 mod geometry;
 mod index;
+mod laws;
 mod part;
 mod place;
 mod region;
@@ -14,5 +15,6 @@ mod turns;
 mod window;
 
 pub use geometry::Geometry;
+pub use laws::no_chunk_is_larger;
 pub use place::Place;
 pub use turns::{chunk_at_its_turn, turn_of_its_chunk};

@@ -4,6 +4,7 @@ ghost use Rattle.std.specs.Prelude.{◌≡◌, ◌≤◌, ◌+◌, ◌^◌, IfOk
 ghost use Rattle.exr_base.specs.Shape.{IsSide, IsSampled};
 ghost use Rattle.exr_chunks.specs.Heads.{chunk_width, chunk_height, chunk_count_of, IsPicture};
 ghost use Rattle.exr_chunks.specs.Part.{without_attributes, header_of, IsPart};
+ghost use Rattle.exr_chunks.specs.Sizes.{IsMeasured};
 
 use crate::sides::{pieces, span};
 use exr_base::{Box2i, Channel, Method, NoMemory};
@@ -77,6 +78,7 @@ impl Part {
     /// The part of a header, behind parts that have so many chunks.
     pub fn new(alloc: Global, header: &Header, first: u32) -> Result<Part, NoMemory>
         requires picture { IsPicture header.now }
+        requires measured { IsMeasured header.now }
         requires few { first + chunk_count_of header.now ≤ 2 ^ 20 }
         ensures part { IfOk result IsPart }
         ensures header { IfOk result (λ part. header_of part ≡ without_attributes header.now) }

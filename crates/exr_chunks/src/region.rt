@@ -1,6 +1,6 @@
 //! The regions of chunks, their raw sizes and their places.
 
-ghost use Rattle.std.specs.Prelude.{◌≡◌, ◌<◌};
+ghost use Rattle.std.specs.Prelude.{◌≡◌, ◌<◌, ◌≤◌, ◌^◌};
 ghost use Rattle.exr_base.specs.Shape.{IsRegion};
 ghost use Rattle.exr_chunks.specs.Part.{header_of, IsPart};
 ghost use Rattle.exr_chunks.specs.Region.{region_of, chunk_bytes_of, place_of};
@@ -33,7 +33,8 @@ impl Part {
     pub fn raw_size(&self, index: u32) -> u64
         requires part { IsPart self.now }
         requires within { index < self.now.count }
-        ensures { result ≡ chunk_bytes_of (header_of self.now) index }
+        ensures exact { result ≡ chunk_bytes_of (header_of self.now) index }
+        ensures small { result ≤ 2 ^ 26 }
     {
         let region = self.region(index);
         if self.kind.is_deep() {

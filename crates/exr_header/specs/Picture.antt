@@ -96,8 +96,8 @@ first_region h = record {
   y1 = first_end h.window.y0 h.window.y1 (chunk_height h);
 }
 
--- the raw bytes of the first chunk, of a deep one those of its count table. No chunk of the part has more: the
--- first is cut no shorter than another, and begins at a sample of each channel.
+-- the raw bytes of the first chunk, of a deep one those of its count table. No chunk of the part has more, which is a law
+-- where all chunks have regions (`no_chunk_is_larger` of exr_chunks).
 unfoldable pub raw_chunk_of : Header → ℕ
 raw_chunk_of h =
     if is_deep h.kind

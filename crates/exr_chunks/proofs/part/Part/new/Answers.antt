@@ -43,4 +43,4 @@ returns-clause-part c =
     let count = count_is h c.pieces-across.result c.pieces-down.result across down in
     let part : Part = record { kind = c.kind.result; channels = c.in_ok-copied.field-0; method = c.method.result; window = c.window-window.result; order = c.order.result; tiles = c.tiles.result; columns = c.columns-columns.result; rows = c.rows-rows.result; across = c.pieces-across.result; down = c.pieces-down.result; count = c.pieces-across.result * c.pieces-down.result; first = c.args.first } in
     let header = header_is h part c.kind.ensures (c.in_ok-copied.ensures ∙ c.channels.ensures) c.method.ensures c.window-window.ensures c.order.ensures c.tiles.ensures in
-    part_is h part c.requires.picture header c.columns-columns.ensures.exact c.rows-rows.ensures.exact across down count c.requires.few
+    part_is h part c.requires.picture c.requires.measured header c.columns-columns.ensures.exact c.rows-rows.ensures.exact across down count c.requires.few

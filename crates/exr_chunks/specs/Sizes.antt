@@ -1,0 +1,26 @@
+-- What judging says of the raw sizes of a header's chunks.
+use Rattle.std.specs.Prelude.{◌≡◌, ◌≤◌, ◌<◌, ◌^◌, ◌↔◌, ℕ, IsTrue, All}
+use Rattle.exr_chunks.specs.Heads.{Header, IsPicture, is_sampled_well, raw_chunk_of, chunk_count_of}
+use Rattle.exr_chunks.specs.Region.{chunk_bytes_of}
+
+-- the samplings of all channels fit the kind of part and the data window
+abbrev pub AreSampledWell : Header → Type 0
+AreSampledWell h = All (λ c. IsTrue (is_sampled_well h c)) h.channels
+
+-- the samplings fit, and the first chunk has at most 2^26 raw bytes
+pub record IsMeasured (h : Header) : Type 0 where
+  pub sampled : AreSampledWell h
+  pub small : raw_chunk_of h ≤ 2 ^ 26
+
+-- what is judged of a header is the raw size of its first chunk
+abbrev pub JudgesTheFirst : Header → Type 0
+JudgesTheFirst h = IsPicture h → chunk_bytes_of h 0 ≡ raw_chunk_of h
+
+-- and no other chunk has more
+abbrev pub HasNoLarger : Header → Type 0
+HasNoLarger h = IsPicture h → AreSampledWell h → (i : ℕ) → i < chunk_count_of h → chunk_bytes_of h i ≤ raw_chunk_of h
+
+-- so the first passes 2^26 exactly where one of all does
+abbrev pub IsJudgedForAll : Header → Type 0
+IsJudgedForAll h =
+    IsPicture h → AreSampledWell h → (2 ^ 26 < raw_chunk_of h) ↔ ((i : ℕ) × (i < chunk_count_of h) × (2 ^ 26 < chunk_bytes_of h i))

@@ -1,0 +1,14 @@
+//! What judging the raw size of a part's first chunk says of all its chunks. This call does nothing: its contract is the
+//! law.
+
+ghost use Rattle.exr_chunks.specs.Heads.{Header};
+ghost use Rattle.exr_chunks.specs.Sizes.{JudgesTheFirst, HasNoLarger, IsJudgedForAll};
+
+/// No chunk of a part has more raw bytes than the first, whose size is the one that is judged: it is cut no shorter than
+/// another, and it begins at a sample of each channel.
+pub fn no_chunk_is_larger()
+    ensures first { (h : Header) → JudgesTheFirst h }
+    ensures others { (h : Header) → HasNoLarger h }
+    // The size that is judged passes the limit exactly where one of all sizes does.
+    ensures judged { (h : Header) → IsJudgedForAll h }
+{}
