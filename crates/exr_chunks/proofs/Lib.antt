@@ -9,3 +9,4 @@ pub mod Pieces
 pub mod Samples
 pub mod Turning
 pub mod Windows
+pub mod Pixels

@@ -5,3 +5,4 @@ pub mod Sizes
 pub mod Table
 pub mod Window
 pub mod Turns
+pub mod Pixels

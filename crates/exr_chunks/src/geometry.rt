@@ -4,6 +4,7 @@ ghost use Rattle.std.specs.Prelude.{◌≡◌, ◌≢◌, ◌<◌, ◌≤◌, �
 ghost use Rattle.exr_base.specs.Shape.{IsRegion};
 ghost use Rattle.exr_chunks.specs.Heads.{IsPicture, chunk_count_of};
 ghost use Rattle.exr_chunks.specs.Part.{without_attributes, header_of, IsPart};
+ghost use Rattle.exr_chunks.specs.Pixels.{IsInside};
 ghost use Rattle.exr_chunks.specs.Region.{header_at, region_of, chunk_bytes_of, place_of, IsIndexOf};
 ghost use Rattle.exr_chunks.specs.Sizes.{IsMeasured};
 ghost use Rattle.exr_chunks.specs.Table.{chunks_before, entry_place};
@@ -119,6 +120,7 @@ impl Geometry {
         requires index { index < chunk_count_of (header_at self.now part) }
         ensures exact { result ≡ region_of (header_at self.now part) index }
         ensures region { IsRegion result }
+        ensures inside { IsInside (header_at self.now part).window result }
     {
         self.part(part).region(index)
     }

@@ -1,7 +1,7 @@
-//! What judging the raw size of a part's first chunk says of all its chunks. This call does nothing: its contract is the
-//! law.
+//! Laws of the chunks of a part. These calls do nothing: their contracts are the laws.
 
 ghost use Rattle.exr_chunks.specs.Heads.{Header};
+ghost use Rattle.exr_chunks.specs.Pixels.{HasOneChunkEach};
 ghost use Rattle.exr_chunks.specs.Sizes.{JudgesTheFirst, HasNoLarger, IsJudgedForAll};
 
 /// No chunk of a part has more raw bytes than the first, whose size is the one that is judged: it is cut no shorter than
@@ -11,4 +11,9 @@ pub fn no_chunk_is_larger()
     ensures others { (h : Header) → HasNoLarger h }
     // The size that is judged passes the limit exactly where one of all sizes does.
     ensures judged { (h : Header) → IsJudgedForAll h }
+{}
+
+/// Each pixel of a data window lies in the region of one chunk of the part.
+pub fn each_pixel_has_one_chunk()
+    ensures { (h : Header) → HasOneChunkEach h }
 {}

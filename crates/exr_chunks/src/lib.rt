@@ -15,6 +15,6 @@ mod turns;
 mod window;
 
 pub use geometry::Geometry;
-pub use laws::no_chunk_is_larger;
+pub use laws::{each_pixel_has_one_chunk, no_chunk_is_larger};
 pub use place::Place;
 pub use turns::{chunk_at_its_turn, turn_of_its_chunk};

@@ -3,6 +3,7 @@
 ghost use Rattle.std.specs.Prelude.{◌≡◌, ◌<◌, ◌≤◌, ◌^◌};
 ghost use Rattle.exr_base.specs.Shape.{IsRegion};
 ghost use Rattle.exr_chunks.specs.Part.{header_of, IsPart};
+ghost use Rattle.exr_chunks.specs.Pixels.{IsInside};
 ghost use Rattle.exr_chunks.specs.Region.{region_of, chunk_bytes_of, place_of};
 
 use crate::part::Part;
@@ -17,6 +18,7 @@ impl Part {
         requires within { index < self.now.count }
         ensures exact { result ≡ region_of (header_of self.now) index }
         ensures region { IsRegion result }
+        ensures inside { IsInside (header_of self.now).window result }
     {
         let window = self.window;
         let column = index % self.across;

@@ -49,3 +49,13 @@ bytes_by g hs k i e = ap (λ l. chunk_bytes_of (header_at l k) i) e ∙ bare_byt
 
 pub entry_by : (g hs : List Header) (k i : ℕ) → g ≡ map without_attributes hs → entry_place g 0 k i ≡ 8 * (chunks_before hs k + i)
 entry_by g hs k i e = ap (λ l. entry_place l 0 k i) e ∙ bare_entry hs 0 k i ∙ omega arith
+
+pub region_by : (g hs : List Header) (k i : ℕ) → g ≡ map without_attributes hs → region_of (header_at g k) i ≡ region_of (header_at hs k) i
+unfolding region_of
+region_by g hs k i e = ap (λ l. region_of (header_at l k) i) e ∙ ap (λ h. region_of h i) (bare_at hs k)
+
+pub window_by : (g hs : List Header) (k : ℕ) → g ≡ map without_attributes hs → (header_at g k).window ≡ (header_at hs k).window
+window_by g hs k e = ap (λ l. (header_at l k).window) e ∙ ap (λ h. h.window) (bare_at hs k)
+
+pub chunks_by : (g hs : List Header) (k : ℕ) → g ≡ map without_attributes hs → chunk_count_of (header_at g k) ≡ chunk_count_of (header_at hs k)
+chunks_by g hs k e = ap (λ l. chunk_count_of (header_at l k)) e ∙ bare_chunks hs k

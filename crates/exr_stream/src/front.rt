@@ -6,8 +6,10 @@ ghost use Rattle.exr_outside.specs.Source.{IsSameSource};
 ghost use Rattle.exr_header.specs.declared.header.Header.{Header};
 ghost use Rattle.exr_header.specs.Head.{head_of};
 ghost use Rattle.exr_opening.specs.Opening.{OnlyReads};
+ghost use Rattle.exr_base.specs.Shape.{IsRegion};
 ghost use Rattle.exr_chunks.specs.Heads.{chunk_count_of};
-ghost use Rattle.exr_chunks.specs.Region.{header_at, chunk_bytes_of, place_of};
+ghost use Rattle.exr_chunks.specs.Pixels.{IsInside};
+ghost use Rattle.exr_chunks.specs.Region.{header_at, region_of, chunk_bytes_of, place_of};
 ghost use Rattle.exr_chunks.specs.Table.{entry_place};
 ghost use Rattle.exr_stream.specs.Fields.{chunk_fields};
 ghost use Rattle.exr_stream.specs.Chunk.{entry_in};
@@ -15,7 +17,7 @@ ghost use Rattle.exr_stream.specs.Stream.{IsWhyNot, OwesRead, IsFront, IsFrontOf
 
 use crate::data::{Expected, entry_in};
 use crate::fields::chunk_fields;
-use exr_base::{NoMemory, Refusal};
+use exr_base::{Box2i, NoMemory, Refusal};
 use exr_block::ChunkFault;
 use exr_chunks::Geometry;
 use exr_header::FileHead;
@@ -99,6 +101,27 @@ impl Front {
             return Err(ChunkFault::Outside);
         }
         entry_in(&tables[at..])
+    }
+
+    /// How many chunks a part has.
+    pub fn chunk_count(&self, part: u32) -> u32
+        requires front { IsFront self.now }
+        requires part { part < length self.now.head.parts }
+        ensures { result ≡ chunk_count_of (header_at self.now.head.parts part) }
+    {
+        self.geometry.chunk_count(part)
+    }
+
+    /// The region of a chunk.
+    pub fn region(&self, part: u32, index: u32) -> Box2i
+        requires front { IsFront self.now }
+        requires part { part < length self.now.head.parts }
+        requires index { index < chunk_count_of (header_at self.now.head.parts part) }
+        ensures exact { result ≡ region_of (header_at self.now.head.parts part) index }
+        ensures region { IsRegion result }
+        ensures inside { IsInside (header_at self.now.head.parts part).window result }
+    {
+        self.geometry.region(part, index)
     }
 
     /// What is asked of a chunk.

@@ -4,7 +4,9 @@ ghost use Rattle.std.specs.Prelude.{◌≡◌, ◌≤◌, ◌<◌, ◌^◌, fals
 ghost use Rattle.exr_outside.specs.Count.{Rose};
 ghost use Rattle.exr_outside.specs.Source.{IsSameSource};
 ghost use Rattle.exr_header.specs.Kind.{is_deep};
-ghost use Rattle.exr_chunks.specs.Heads.{chunk_count_of};
+ghost use Rattle.exr_base.specs.Shape.{IsRegion};
+ghost use Rattle.exr_chunks.specs.Heads.{IsPicture, chunk_count_of};
+ghost use Rattle.exr_chunks.specs.Pixels.{IsInside};
 ghost use Rattle.exr_chunks.specs.Part.{without_attributes};
 ghost use Rattle.exr_chunks.specs.Region.{header_at, region_of};
 ghost use Rattle.exr_block.specs.Sizes.{sizes_fit};
@@ -13,10 +15,10 @@ ghost use Rattle.exr_stream.specs.Stream.{HasHead, IsSameStream, IsWhyNot, OwesR
 
 use crate::fault::FetchFault;
 use crate::front::Front;
-use exr_base::Refusal;
+use exr_base::{Box2i, Refusal};
 use exr_block::Body;
 use exr_chunks::Geometry;
-use exr_header::FileHead;
+use exr_header::{FileHead, Header};
 use exr_opening::OpenFault;
 use exr_outside::{Source, World};
 use std::alloc::Global;
@@ -88,6 +90,34 @@ impl<W: World, S: Source> Stream<W, S> {
         ensures { result.now ≡ map without_attributes self.now.head.parts }
     {
         &self.front.geometry
+    }
+
+    /// The header of a part.
+    pub fn header(&self, part: u32) -> &Header
+        requires { part < length self.now.head.parts }
+        ensures exact { result.now ≡ header_at self.now.head.parts part }
+        ensures picture { IsPicture result.now }
+    {
+        &self.front.head.parts()[part as usize]
+    }
+
+    /// How many chunks a part has.
+    pub fn chunk_count(&self, part: u32) -> u32
+        requires { part < length self.now.head.parts }
+        ensures { result ≡ chunk_count_of (header_at self.now.head.parts part) }
+    {
+        self.front.chunk_count(part)
+    }
+
+    /// The region of a chunk, cut at the data window.
+    pub fn region(&self, part: u32, index: u32) -> Box2i
+        requires part { part < length self.now.head.parts }
+        requires index { index < chunk_count_of (header_at self.now.head.parts part) }
+        ensures exact { result ≡ region_of (header_at self.now.head.parts part) index }
+        ensures region { IsRegion result }
+        ensures inside { IsInside (header_at self.now.head.parts part).window result }
+    {
+        self.front.region(part, index)
     }
 
     /// How many bytes the head fills, at most 2^24.

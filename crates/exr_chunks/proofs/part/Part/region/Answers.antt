@@ -1,7 +1,10 @@
-use Rattle.std.proofs.Common.{rules}
+use Rattle.std.proofs.Common.{rules, ◌<◌, sym, subst}
 use Rattle.std.specs.Int.{w32}
 use Rattle.std.proofs.lemmas.Int.{to_z-of_z}
 use mir.Val.{SFits}
+use Rattle.exr_chunks.specs.Part.{header_of}
+use Rattle.exr_chunks.specs.Pixels.{IsInside}
+use Rattle.exr_chunks.proofs.Pixels.{region_inside}
 use Rattle.exr_chunks.proofs.Parts.{AreEnds, cut, region_is, region_sides}
 use Rattle.exr_chunks.proofs.part.Part.region.Goals as goal
 
@@ -57,7 +60,9 @@ returns c =
       right = simp to_z-of_z at c.end.ensures;
       bottom = simp to_z-of_z at c.end-2.ensures;
     } in
+    let is = region_is p c.args.index c.start.result c.start-2.result c.end.result c.end-2.result c.requires.part ends in
     record {
-      exact = simp to_z-of_z (region_is p c.args.index c.start.result c.start-2.result c.end.result c.end-2.result c.requires.part ends);
+      exact = simp to_z-of_z is;
+      inside = simp to_z-of_z (subst (IsInside (header_of p).window) (sym is) (region_inside (header_of p) c.args.index c.requires.part.picture (subst (λ n. c.args.index < n) c.requires.part.count c.requires.within)));
       region = simp to_z-of_z (region_sides p c.args.index c.start.result c.start-2.result c.end.result c.end-2.result k ends);
     }

@@ -20,4 +20,4 @@ returns-clause-fields c =
 
 pub returns-clause-raw : goal.returns-clause-raw
 returns-clause-raw c =
-    c.raw_size.ensures ∙ bytes_by c.args.self.now.geometry c.args.self.now.head.parts c.args.part c.args.index c.requires.front.geometry
+    c.raw_size.ensures.exact ∙ bytes_by c.args.self.now.geometry c.args.self.now.head.parts c.args.part c.args.index c.requires.front.geometry

@@ -1,0 +1,4 @@
+pub mod Places
+pub mod Samples
+pub mod Chunks
+pub mod Growing
