@@ -1,3 +1,2 @@
-pub mod Rows
 pub mod Oks
-pub mod Samples
+pub mod Due

@@ -1,6 +1,4 @@
-pub mod PlainFile
-pub mod Views
-pub mod Stops
-pub mod Buffer
-pub mod Texts
+pub mod Request
 pub mod Run
+pub mod Stops
+pub mod Texts

@@ -1,16 +1,20 @@
 -- What the top call leaves, and why it stops.
-use Rattle.std.specs.Prelude.{◌≡◌, ◌⊎◌, ℕ, List, [], ◌∷◌, ◌++◌, length, Result, Ok, Err, MatchResult}
+use Rattle.std.specs.Prelude.{◌≡◌, ◌⊎◌, ℕ, List, [], ◌∷◌, ◌++◌, length, unwrap_or, Some, Result, Ok, Err, MatchResult}
 use Rattle.exr_attributes.specs.declared.fault.HeaderFault.{HeaderFault}
 use Rattle.exr_header.specs.Head.{Head, head_of}
 use Rattle.exr_header.specs.Show.{head_text}
 use Rattle.exr_words.specs.Command.{Command, header, extract, first_of}
 use Rattle.exr_words.specs.Words.{command_of}
 use Rattle.exr_tools.specs.declared.stop.Stop.{Stop}
-use Rattle.exr_tools.specs.declared.stop.Stop.TheVariants.{NoMemory, Words, File, Read, Write, Form}
+use Rattle.exr_tools.specs.declared.stop.Stop.TheVariants.{NoMemory, Words, File, Read, Write, Request, Form}
 use Rattle.exr_tools.specs.declared.stop.FileFault.{FileFault}
 use Rattle.exr_tools.specs.declared.stop.FileFault.TheVariants as fault
-use Rattle.exr_tools.specs.PlainFile.{Plain, IsPlainFile, IsOtherFile}
-use Rattle.exr_tools.specs.Buffer.{IsBuffer}
+use Rattle.exr_block.specs.declared.fault.ChunkFault.{ChunkFault}
+use Rattle.exr_chunks.specs.Heads.{chunk_count_of}
+use Rattle.exr_chunks.specs.Region.{header_at}
+use Rattle.exr_reader.specs.Whole.{ArePlanesOf}
+use Rattle.exr_reader.specs.Reading.{HaveData, IsFirstFault}
+use Rattle.exr_tools.specs.Request.{request_refused, IsReadable}
 use Rattle.exr_tools.specs.Texts.{extract_line}
 
 -- ---- what a command does. Each part is said where the outside tells what it speaks of.
@@ -22,11 +26,18 @@ pub record IsTextOf (file text : List ℕ) : Type 0 where
   pub found : head_of file ≡ Ok (head, bytes)
   pub shown : text ≡ head_text head
 
--- the buffer holds the samples of a plain file
-pub record IsExtracted (file buffer : List ℕ) : Type 0 where
-  pub head : Plain
-  pub plain : IsPlainFile file head
-  pub samples : IsBuffer file head buffer
+-- a file whose head fills some bytes has a part that can be read, and each chunk of it has data
+pub record HasPart (file : List ℕ) (head : Head) (bytes part : ℕ) : Type 0 where
+  pub found : head_of file ≡ Ok (head, bytes)
+  pub readable : IsReadable head part
+  pub chunks : HaveData file head bytes part (chunk_count_of (header_at head.parts part))
+
+-- the buffer holds the samples of a part of a file
+pub record IsExtracted (file : List ℕ) (part : ℕ) (buffer : List ℕ) : Type 0 where
+  pub head : Head
+  pub bytes : ℕ
+  pub has : HasPart file head bytes part
+  pub planes : ArePlanesOf file head bytes part buffer
 
 -- the text of a file's head is printed, and nothing is kept
 pub record Shows (file : List ℕ) (files_tell out_tells : Type 0) (kept kept_after : List (List ℕ × List ℕ)) (out out_after : List ℕ) : Type 0 where
@@ -35,16 +46,16 @@ pub record Shows (file : List ℕ) (files_tell out_tells : Type 0) (kept kept_af
   pub written : files_tell → kept_after ≡ kept
   pub printed : out_tells → out_after ≡ out ++ text
 
--- the buffer of a plain file is kept under the output's name, and its line is printed
-pub record Writes (file output : List ℕ) (files_tell out_tells : Type 0) (kept kept_after : List (List ℕ × List ℕ)) (out out_after : List ℕ) : Type 0 where
+-- the buffer of a part of a file is kept under the output's name, and its line is printed
+pub record Writes (file : List ℕ) (part : ℕ) (output : List ℕ) (files_tell out_tells : Type 0) (kept kept_after : List (List ℕ × List ℕ)) (out out_after : List ℕ) : Type 0 where
   pub buffer : List ℕ
-  pub extracted : IsExtracted file buffer
+  pub extracted : IsExtracted file part buffer
   pub written : files_tell → kept_after ≡ kept ++ (output, buffer) ∷ []
   pub printed : out_tells → out_after ≡ out ++ extract_line (length buffer)
 
 abbrev pub Does : Command → (List ℕ → List ℕ) → Type 0 → Type 0 → Type 0 → List (List ℕ × List ℕ) → List (List ℕ × List ℕ) → List ℕ → List ℕ → Type 0
 Does (header inputs) bytes_of files_tell sinks_tell out_tells = Shows (bytes_of (first_of inputs)) files_tell out_tells
-Does (extract inputs output part) bytes_of files_tell sinks_tell out_tells = Writes (bytes_of (first_of inputs)) output (files_tell × sinks_tell) out_tells
+Does (extract inputs output part) bytes_of files_tell sinks_tell out_tells = Writes (bytes_of (first_of inputs)) (unwrap_or part 0) output (files_tell × sinks_tell) out_tells
 
 -- the words have a command, and it was done
 pub record Obeys (bytes_of : List ℕ → List ℕ) (source_tells files_tell sinks_tell out_tells : Type 0) (words : List (List ℕ)) (kept kept_after : List (List ℕ × List ℕ)) (out out_after : List ℕ) : Type 0 where
@@ -54,34 +65,43 @@ pub record Obeys (bytes_of : List ℕ → List ℕ) (source_tells files_tell sin
 
 -- ---- stops that the input calls for
 
--- what is wrong with a file
-abbrev pub HasFault : List ℕ → FileFault → Type 0
-HasFault file (fault.Head f) = head_of file ≡ Err f
-
--- the stop is that of a fault of the command's first file
+-- the stop is that of the fault of the head of the command's first file
 abbrev pub IsFaulty : Stop → List ℕ → Type 0
-IsFaulty (File index f) file = (index ≡ 0) × HasFault file f
+IsFaulty (File index (fault.Head f)) file = (index ≡ 0) × (head_of file ≡ Err f)
 IsFaulty stop file = ⊥
 
--- the stop is that of a fault, or of a form that is not read so far
-abbrev pub IsFaultyOrOther : Stop → List ℕ → Type 0
-IsFaultyOrOther Form file = IsOtherFile file
-IsFaultyOrOther stop file = IsFaulty stop file
+-- the request for a part of a file calls for the stop
+pub record IsRefused (stop : Stop) (file : List ℕ) (part : ℕ) : Type 0 where
+  pub head : Head
+  pub bytes : ℕ
+  pub found : head_of file ≡ Ok (head, bytes)
+  pub refused : request_refused head part ≡ Some stop
+
+-- the first fault of a chunk of a part that can be read
+pub record HasFirstFault (file : List ℕ) (part index : ℕ) (f : ChunkFault) : Type 0 where
+  pub head : Head
+  pub bytes : ℕ
+  pub found : head_of file ≡ Ok (head, bytes)
+  pub readable : IsReadable head part
+  pub first : IsFirstFault file head bytes part index f
+
+-- the stop is that of a fault of the head, of the request for a part, or of the part's first chunk with a fault
+abbrev pub IsUnread : Stop → List ℕ → ℕ → Type 0
+IsUnread (File index (fault.Head f)) file part = (index ≡ 0) × (head_of file ≡ Err f)
+IsUnread (File index (fault.Chunk p i f)) file part = (index ≡ 0) × ((p ≡ part) × HasFirstFault file part i f)
+IsUnread (Request r) file part = IsRefused (Request r) file part
+IsUnread Form file part = IsRefused Form file part
+IsUnread stop file part = ⊥
 
 -- the stop that the input of a command calls for
 abbrev pub IsDue : Command → (List ℕ → List ℕ) → Stop → Type 0
 IsDue (header inputs) bytes_of stop = IsFaulty stop (bytes_of (first_of inputs))
-IsDue (extract inputs output part) bytes_of stop = IsFaultyOrOther stop (bytes_of (first_of inputs))
-
--- the stop is that of a form
-abbrev pub IsForm : Stop → Type 0
-IsForm Form = Unit {0}
-IsForm stop = ⊥
+IsDue (extract inputs output part) bytes_of stop = IsUnread stop (bytes_of (first_of inputs)) (unwrap_or part 0)
 
 -- the input calls for no stop
 abbrev pub IsSound : Command → (List ℕ → List ℕ) → Type 0
 IsSound (header inputs) bytes_of = (text : List ℕ) × IsTextOf (bytes_of (first_of inputs)) text
-IsSound (extract inputs output part) bytes_of = (h : Plain) × IsPlainFile (bytes_of (first_of inputs)) h
+IsSound (extract inputs output part) bytes_of = (head : Head) × (bytes : ℕ) × HasPart (bytes_of (first_of inputs)) head bytes (unwrap_or part 0)
 
 -- the fact that goes with each stop; want of memory needs none
 abbrev pub HasReason : Stop → (ℕ → Type 0) → (Stop → Type 0) → Type 0 → Type 0 → Type 0
@@ -90,6 +110,7 @@ HasReason (Words position) words due read write = words position
 HasReason (File file f) words due read write = due (File file f)
 HasReason Read words due read write = read
 HasReason Write words due read write = write
+HasReason (Request r) words due read write = due (Request r)
 HasReason Form words due read write = due Form
 
 -- a stop other than want of memory owes one of two rises
@@ -138,4 +159,5 @@ IsBeforeWriting (Words position) = Unit {0}
 IsBeforeWriting (File file f) = Unit {0}
 IsBeforeWriting Read = Unit {0}
 IsBeforeWriting Write = ⊥
+IsBeforeWriting (Request r) = Unit {0}
 IsBeforeWriting Form = Unit {0}

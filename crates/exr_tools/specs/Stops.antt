@@ -1,4 +1,5 @@
 -- The stops that refusals of the layers below become.
+use Rattle.std.specs.Prelude.{ℕ}
 use Rattle.exr_base.specs.declared.refusal.Refusal.{Refusal}
 use Rattle.exr_base.specs.declared.refusal.Refusal.TheVariants as refusal
 use Rattle.exr_opening.specs.declared.opening.OpenFault.{OpenFault}
@@ -6,7 +7,9 @@ use Rattle.exr_opening.specs.declared.opening.OpenFault.TheVariants as opening
 use Rattle.exr_words.specs.declared.order.WordFault.{WordFault}
 use Rattle.exr_tools.specs.declared.stop.Stop.{Stop}
 use Rattle.exr_tools.specs.declared.stop.Stop.TheVariants.{NoMemory, Words, File, Read}
-use Rattle.exr_tools.specs.declared.stop.FileFault.TheVariants.{Head}
+use Rattle.exr_tools.specs.declared.stop.FileFault.TheVariants.{Head, Chunk}
+use Rattle.exr_reader.specs.declared.cause.ReadCause.{ReadCause}
+use Rattle.exr_reader.specs.declared.cause.ReadCause.TheVariants as cause
 
 abbrev pub stop_of_words : Refusal WordFault → Stop
 stop_of_words (refusal.Fault f) = Words f.position
@@ -17,3 +20,9 @@ abbrev pub stop_of_opening : Refusal OpenFault → Stop
 stop_of_opening (refusal.Fault opening.Read) = Read
 stop_of_opening (refusal.Fault (opening.Head f)) = File 0 (Head f)
 stop_of_opening refusal.NoMemory = NoMemory
+
+-- of a part of that file
+abbrev pub stop_of_reading : ℕ → ReadCause → Stop
+stop_of_reading part cause.NoMemory = NoMemory
+stop_of_reading part cause.Read = Read
+stop_of_reading part (cause.Chunk index f) = File 0 (Chunk part index f)

@@ -1,10 +1,12 @@
 -- What the program prints, and the status that it ends with.
 use Rattle.std.specs.Prelude.{ℕ, List, [], ◌∷◌, ◌++◌, codes, decimal}
-use Rattle.exr_attributes.specs.Fault.{number_of}
+use Rattle.exr_attributes.specs.Fault.{number_of as head_number_of}
+use Rattle.exr_block.specs.Fault.{number_of as chunk_number_of}
+use Rattle.exr_tools.specs.Request.{request_number_of}
 use Rattle.exr_tools.specs.declared.stop.Stop.{Stop}
-use Rattle.exr_tools.specs.declared.stop.Stop.TheVariants.{NoMemory, Words, File, Read, Write, Form}
+use Rattle.exr_tools.specs.declared.stop.Stop.TheVariants.{NoMemory, Words, File, Read, Write, Request, Form}
 use Rattle.exr_tools.specs.declared.stop.FileFault.{FileFault}
-use Rattle.exr_tools.specs.declared.stop.FileFault.TheVariants.{Head}
+use Rattle.exr_tools.specs.declared.stop.FileFault.TheVariants.{Head, Chunk}
 
 -- the line that an extraction of so many bytes prints
 abbrev pub extract_line : ℕ → List ℕ
@@ -17,11 +19,14 @@ status_of (Words position) = 2
 status_of (File file fault) = 3
 status_of Read = 4
 status_of Write = 5
+status_of (Request fault) = 6
 status_of Form = 7
 
 -- the line of a fault of a file
 abbrev pub file_line_of : ℕ → FileFault → List ℕ
-file_line_of file (Head fault) = codes "exr: file " ++ (decimal file ++ (codes " head fault " ++ (decimal (number_of fault) ++ 10 ∷ [])))
+file_line_of file (Head fault) = codes "exr: file " ++ (decimal file ++ (codes " head fault " ++ (decimal (head_number_of fault) ++ 10 ∷ [])))
+file_line_of file (Chunk part index fault) =
+    codes "exr: file " ++ (decimal file ++ (codes " part " ++ (decimal part ++ (codes " chunk " ++ (decimal index ++ (codes " fault " ++ (decimal (chunk_number_of fault) ++ 10 ∷ [])))))))
 
 -- the line of a stop
 abbrev pub line_of : Stop → List ℕ
@@ -30,4 +35,5 @@ line_of (Words position) = codes "exr: word " ++ decimal position ++ 10 ∷ []
 line_of (File file fault) = file_line_of file fault
 line_of Read = codes "exr: read fault" ++ 10 ∷ []
 line_of Write = codes "exr: write fault" ++ 10 ∷ []
+line_of (Request fault) = codes "exr: request fault " ++ (decimal (request_number_of fault) ++ 10 ∷ [])
 line_of Form = codes "exr: form" ++ 10 ∷ []

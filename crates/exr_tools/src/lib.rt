@@ -3,12 +3,11 @@
 
 mod extract;
 mod header;
-mod plain_file;
-mod plain_head;
-mod planes;
 mod print;
+mod request;
 mod stop;
 mod top;
 
+pub use request::RequestFault;
 pub use stop::{FileFault, Stop, stop_line};
 pub use top::run;

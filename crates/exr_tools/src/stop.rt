@@ -2,12 +2,13 @@
 
 ghost use Rattle.std.specs.Prelude.{◌≡◌, IfOk, string_bytes};
 ghost use Rattle.exr_tools.specs.declared.stop.Stop.TheVariants as stop;
-ghost use Rattle.exr_tools.specs.declared.stop.FileFault.TheVariants as file;
 ghost use Rattle.exr_tools.specs.Stops.{stop_of_words, stop_of_opening};
 ghost use Rattle.exr_tools.specs.Texts.{status_of, file_line_of, line_of};
 
+use crate::request::RequestFault;
 use exr_attributes::HeaderFault;
 use exr_base::{NoMemory, Refusal};
+use exr_block::ChunkFault;
 use exr_opening::OpenFault;
 use exr_words::WordFault;
 use std::alloc::{AllocError, AllocFailed, Global};
@@ -19,6 +20,13 @@ pub enum FileFault {
     /// It begins with no head; the first fault from the front.
     #[error("head fault: {0}")]
     Head(HeaderFault),
+    /// A chunk has a fault; the first one, by its index in its part.
+    #[error("part {part}: chunk {index}: {fault}")]
+    Chunk {
+        part: u32,
+        index: u32,
+        fault: ChunkFault,
+    },
 }
 
 /// Why a command stopped. The program prints its line on standard error and ends with its status.
@@ -39,7 +47,10 @@ pub enum Stop {
     /// A file could not be created or written, or standard output could not.
     #[error("write fault")]
     Write,
-    /// The file is none that the program reads so far.
+    /// What is asked of a file cannot be had.
+    #[error("request fault: {0}")]
+    Request(RequestFault),
+    /// The part is none that the program reads so far.
     #[error("form")]
     Form,
 }
@@ -55,6 +66,7 @@ impl Stop {
             Stop::File { file: _, fault: _ } => 3,
             Stop::Read => 4,
             Stop::Write => 5,
+            Stop::Request(_) => 6,
             Stop::Form => 7,
         }
     }
@@ -70,26 +82,29 @@ pub fn stop_line(alloc: Global, stop: &Stop) -> Result<Vec<u8>, NoMemory>
         Stop::File { file, fault } => file_line(alloc, *file, *fault)?,
         Stop::Read => format!(in alloc; "exr: read fault\n")?,
         Stop::Write => format!(in alloc; "exr: write fault\n")?,
+        Stop::Request(fault) => {
+            let number = fault.number();
+            format!(in alloc; "exr: request fault {number}\n")?
+        }
         Stop::Form => format!(in alloc; "exr: form\n")?,
     };
     Ok(line.into_bytes())
-}
-
-/// The fault of a file's head.
-fn head_fault(fault: FileFault) -> HeaderFault
-    ensures { fault ≡ file.Head result }
-{
-    match fault {
-        FileFault::Head(fault) => fault,
-    }
 }
 
 /// The line of a fault of a file.
 fn file_line(alloc: Global, file: u32, fault: FileFault) -> Result<String, NoMemory>
     ensures { IfOk result (λ line. string_bytes line ≡ file_line_of file fault) }
 {
-    let number = head_fault(fault).number();
-    Ok(format!(in alloc; "exr: file {file} head fault {number}\n")?)
+    match fault {
+        FileFault::Head(fault) => {
+            let number = fault.number();
+            Ok(format!(in alloc; "exr: file {file} head fault {number}\n")?)
+        }
+        FileFault::Chunk { part, index, fault } => {
+            let number = fault.number();
+            Ok(format!(in alloc; "exr: file {file} part {part} chunk {index} fault {number}\n")?)
+        }
+    }
 }
 
 impl From<NoMemory> for Stop {

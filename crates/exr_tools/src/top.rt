@@ -15,7 +15,8 @@ use exr_words::{Order, read_words};
 use std::alloc::Global;
 use std::thread::Threads;
 
-/// Does what the words say: `header in=NAME`, or `extract in=NAME out=NAME` with the two in either order.
+/// Does what the words say: `header in=NAME`, or `extract in=NAME out=NAME part=NUMBER` with the keys in any order and the part
+/// left out where it is 0.
 ///
 /// Each file that is opened or created is given back before the call returns. Nothing is printed before all else
 /// succeeded. The gate is passed by commands that work in threads; none does yet.
@@ -81,9 +82,10 @@ pub fn run<R: Threads + Sync, W: World, F: Files<W>, O: Printer, G: Gate>(
         Order::Extract {
             inputs,
             output,
-            part: _,
+            part,
         } => {
-            extract::<W, F, O>(alloc, files, out, inputs.first(), output.as_str())
+            let part = part.unwrap_or(0);
+            extract::<W, F, O>(alloc, files, out, inputs.first(), output.as_str(), part)
         }
     }
 }
