@@ -1,9 +1,10 @@
-//! The rows: plain files and files that are none, faulty words, and calls that fail.
+//! The rows: files whose samples are read and others, faults of chunks and requests, faulty words, and calls that fail.
 
 use super::files::*;
 use super::runs::{NONE, Named, outcome_of};
 use exr_attributes::HeaderFault;
-use exr_tools::{FileFault, Stop, stop_line};
+use exr_block::ChunkFault;
+use exr_tools::{FileFault, RequestFault, Stop, stop_line};
 use std::alloc::Global;
 use std::process::Abort;
 use std::test::Fail;
@@ -19,6 +20,18 @@ fn head(fault: HeaderFault) -> Stop {
     }
 }
 
+/// The fault of a chunk of the first part.
+fn chunk(index: u32, fault: ChunkFault) -> Stop {
+    Stop::File {
+        file: 0,
+        fault: FileFault::Chunk {
+            part: 0,
+            index,
+            fault,
+        },
+    }
+}
+
 /// A file with another byte at a place.
 fn changed(alloc: Global, file: &[u8], place: usize, byte: u8) -> Result<Vec<u8>, Fail> {
     let mut changed = file.to_vec(alloc)?;
@@ -26,15 +39,17 @@ fn changed(alloc: Global, file: &[u8], place: usize, byte: u8) -> Result<Vec<u8>
     Ok(changed)
 }
 
+// Lines, tiles and parts without compression are read in whatever order the file has them; others are of a form that is
+// not read so far.
 #[test]
-fn plain_files_and_others(rt: HostRuntime) -> Result<(), Fail> {
+fn files_and_what_is_written_of_them(rt: HostRuntime) -> Result<(), Fail> {
     let alloc = rt.alloc();
     let longer = [ONE_SAMPLE, &[0]].concat(alloc)?;
     let long_names = changed(alloc, ONE_SAMPLE, 5, 4)?;
     let unknown_bit = changed(alloc, ONE_SAMPLE, 5, 1)?;
-    let other_order = changed(alloc, ONE_SAMPLE, 177, 1)?;
+    let falling_line = changed(alloc, ONE_SAMPLE, 177, 1)?;
     // the file, the stop, what is written, what is printed
-    let rows: [(&[u8], Option<Stop>, Option<&[u8]>, &str); 11] = [
+    let rows: [(&[u8], Option<Stop>, Option<&[u8]>, &str); 15] = [
         (ONE_SAMPLE, None, Some(ONE_SAMPLE_RAW), "extract bytes 2\n"),
         (
             THREE_CHANNELS,
@@ -48,33 +63,102 @@ fn plain_files_and_others(rt: HostRuntime) -> Result<(), Fail> {
             Some(TWENTY_LINES_RAW),
             "extract bytes 40\n",
         ),
+        (TILES, None, Some(TILES_RAW), "extract bytes 50\n"),
+        (FALLING, None, Some(FALLING_RAW), "extract bytes 4\n"),
+        (TWO_PARTS, None, Some(ONE_SAMPLE_RAW), "extract bytes 2\n"),
         (&long_names, None, Some(ONE_SAMPLE_RAW), "extract bytes 2\n"),
-        (MISPLACED_BLOCK, Some(Stop::Form), None, ""),
-        (&other_order, Some(Stop::Form), None, ""),
-        (&ONE_SAMPLE[..294], Some(Stop::Form), None, ""),
-        (&longer, Some(Stop::Form), None, ""),
+        (
+            &falling_line,
+            None,
+            Some(ONE_SAMPLE_RAW),
+            "extract bytes 2\n",
+        ),
+        (&longer, None, Some(ONE_SAMPLE_RAW), "extract bytes 2\n"),
+        (HALF_AND_FLOAT, Some(Stop::Form), None, ""),
+        (SAMPLED, Some(Stop::Form), None, ""),
+        (DEEP, Some(Stop::Form), None, ""),
+        (RUN_LENGTHS, Some(Stop::Form), None, ""),
         (
             &unknown_bit,
             Some(head(HeaderFault::BadVersion { word: 0x102 })),
             None,
             "",
         ),
-        (
-            &ONE_SAMPLE[..276],
-            Some(head(HeaderFault::Truncated { at: 276 })),
-            None,
-            "",
-        ),
         (&[], Some(head(HeaderFault::Truncated { at: 0 })), None, ""),
     ];
     for (file, stop, written, printed) in rows {
-        for words in [EXTRACT, &["extract", "out=b", "in=a"]] {
+        for words in [EXTRACT, &["extract", "out=b", "part=0", "in=a"]] {
             let got = outcome_of(&rt, alloc, words, file, NONE)?;
             assert_eq!(rt; got.stop, stop);
             assert_eq!(rt; got.kept.as_ref().map(|v| v.as_slice()), written);
             assert_eq!(rt; got.printed.as_slice(), printed.as_bytes());
             assert_eq!(rt; (got.read_faults, got.write_faults), (0, 0));
         }
+    }
+    Ok(())
+}
+
+// Each fault of a chunk, by a change of a good file, and the first of them where there are more.
+#[test]
+fn faults_of_chunks(rt: HostRuntime) -> Result<(), Fail> {
+    let alloc = rt.alloc();
+    let unwritten = changed(alloc, &changed(alloc, ONE_SAMPLE, 277, 0)?, 278, 0)?;
+    let into_the_head = changed(alloc, ONE_SAMPLE, 278, 0)?;
+    let past_the_end = changed(alloc, ONE_SAMPLE, 284, 0x80)?;
+    let larger = changed(alloc, ONE_SAMPLE, 289, 3)?;
+    let smaller = changed(alloc, ONE_SAMPLE, 289, 1)?;
+    let other_line = changed(alloc, ONE_SAMPLE, 285, 1)?;
+    let other_level = changed(alloc, TILES, 385, 1)?;
+    let rows: [(&[u8], Stop); 11] = [
+        (&unwritten, chunk(0, ChunkFault::Unwritten)),
+        (&into_the_head, chunk(0, ChunkFault::WrongPlace)),
+        (&past_the_end, chunk(0, ChunkFault::Outside)),
+        (&larger, chunk(0, ChunkFault::WrongSize)),
+        (&smaller, chunk(0, ChunkFault::WrongSize)),
+        (&other_line, chunk(0, ChunkFault::WrongPlace)),
+        (&ONE_SAMPLE[..294], chunk(0, ChunkFault::Outside)),
+        (&ONE_SAMPLE[..292], chunk(0, ChunkFault::Outside)),
+        (&ONE_SAMPLE[..280], chunk(0, ChunkFault::Outside)),
+        (MISPLACED_BLOCK, chunk(17, ChunkFault::WrongPlace)),
+        (&other_level, chunk(0, ChunkFault::WrongPlace)),
+    ];
+    for (file, stop) in rows {
+        let got = outcome_of(&rt, alloc, EXTRACT, file, NONE)?;
+        assert_eq!(rt; got.stop, Some(stop));
+        assert!(rt; got.kept.is_none());
+        assert_eq!(rt; got.printed.len(), 0);
+    }
+    Ok(())
+}
+
+// Parts count from 0, and one that is not there is a fault of the request, before all others.
+#[test]
+fn parts_that_are_asked_for(rt: HostRuntime) -> Result<(), Fail> {
+    let alloc = rt.alloc();
+    let no_part = Some(Stop::Request(RequestFault::NoPart));
+    // a window of 2^20 by 2^20 pixels: the entries of its chunks are not there
+    let mut vast = ONE_SAMPLE.to_vec(alloc)?;
+    for (place, byte) in [(105usize, 0xff), (106, 0xff), (107, 0x0f)] {
+        *vast.get_mut(place).ok_or("a place")? = byte;
+        *vast.get_mut(place.saturating_add(4)).ok_or("a place")? = byte;
+    }
+    let rows: [(&[u8], &str, Option<Stop>); 6] = [
+        (ONE_SAMPLE, "part=1", no_part),
+        (TWO_PARTS, "part=1", None),
+        (TWO_PARTS, "part=2", no_part),
+        (DEEP, "part=1", no_part),
+        (DEEP, "part=0", Some(Stop::Form)),
+        (&vast, "part=0", Some(Stop::Request(RequestFault::TooLarge))),
+    ];
+    for (file, part, stop) in rows {
+        let got = outcome_of(&rt, alloc, &["extract", "in=a", part, "out=b"], file, NONE)?;
+        assert_eq!(rt; got.stop, stop);
+        let written = if stop.is_none() {
+            Some(ONE_SAMPLE_RAW)
+        } else {
+            None
+        };
+        assert_eq!(rt; got.kept.as_ref().map(|v| v.as_slice()), written);
     }
     Ok(())
 }
@@ -168,7 +252,7 @@ fn words_that_are_refused(rt: HostRuntime) -> Result<(), Fail> {
     let alloc = rt.alloc();
     let word = |position| Stop::Words { position };
     // the words, and the stop; a name that is not there is a read fault
-    let rows: [(&[&str], Stop); 14] = [
+    let rows: [(&[&str], Stop); 15] = [
         (&[], word(0)),
         (&["extract"], word(1)),
         (&["extract", "in=a"], word(2)),
@@ -177,7 +261,8 @@ fn words_that_are_refused(rt: HostRuntime) -> Result<(), Fail> {
         (&["extract", "in=", "out=b"], word(1)),
         (&["extract", "in=a", "in=a"], word(2)),
         (&["extract", "in=a", "out=b", "out=b"], word(3)),
-        (&["extract", "in=a", "out=b", "part=0"], word(3)),
+        (&["extract", "in=a", "out=b", "part="], word(3)),
+        (&["extract", "part=4294967296", "in=a", "out=b"], word(1)),
         (&["Extract", "in=a", "out=b"], word(0)),
         (&["--help"], word(0)),
         (&["in=a", "out=b"], word(0)),
@@ -201,6 +286,16 @@ fn lines_of_stops(rt: HostRuntime) -> Result<(), Fail> {
         (head(HeaderFault::BadMagic), 3, "exr: file 0 head fault 5\n"),
         (Stop::Read, 4, "exr: read fault\n"),
         (Stop::Write, 5, "exr: write fault\n"),
+        (
+            chunk(7, ChunkFault::WrongSize),
+            3,
+            "exr: file 0 part 0 chunk 7 fault 4\n",
+        ),
+        (
+            Stop::Request(RequestFault::TooLarge),
+            6,
+            "exr: request fault 6\n",
+        ),
         (Stop::Form, 7, "exr: form\n"),
     ];
     for (stop, status, line) in rows {
@@ -210,8 +305,8 @@ fn lines_of_stops(rt: HostRuntime) -> Result<(), Fail> {
     Ok(())
 }
 
-// A file with some bytes changed or missing is either extracted, or refused for its head or its form, and then nothing
-// is created.
+// A file with some bytes changed or missing is either extracted, or refused for its head, its form, its size or its chunk,
+// and then nothing is created.
 #[test]
 fn each_prefix_and_each_changed_byte(rt: HostRuntime) -> Result<(), Fail> {
     let alloc = rt.alloc();
@@ -221,7 +316,7 @@ fn each_prefix_and_each_changed_byte(rt: HostRuntime) -> Result<(), Fail> {
         let expected = if end < 277 {
             head(HeaderFault::Truncated { at })
         } else {
-            Stop::Form
+            chunk(0, ChunkFault::Outside)
         };
         assert_eq!(rt; stop, Some(expected));
     }
@@ -245,6 +340,7 @@ fn is_extracted_or_refused<R: Abort + AllocGlobal + Threads + Sync>(
     let got = outcome_of(rt, rt.alloc(), EXTRACT, file, NONE)?;
     match got.stop {
         None | Some(Stop::Form) => {}
+        Some(Stop::Request(fault)) => assert_eq!(rt; fault, RequestFault::TooLarge),
         Some(stop) => assert_eq!(rt; stop.status(), 3),
     }
     assert_eq!(rt; got.kept.is_some(), got.stop.is_none());
