@@ -4,3 +4,5 @@ pub mod Intervals
 pub mod Orders
 pub mod Fronts
 pub mod Reading
+pub mod Nine
+pub mod Rests

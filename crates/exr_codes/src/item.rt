@@ -4,7 +4,7 @@ ghost use Rattle.std.specs.Prelude.{◌≡◌, ◌≤◌, IfSome, MatchOption, N
 ghost use Rattle.exr_codes.specs.Items.{lengths_of_item, IsItem};
 ghost use Rattle.exr_codes.specs.Tables.{item_at};
 
-use exr_base::BitReader;
+use crate::reader::Reader;
 
 /// An item: one length of at most 58 bits, or so many entries without a code.
 #[derive(Clone, Copy)]
@@ -15,7 +15,7 @@ pub(crate) enum Item {
 
 /// The first item of the bits, or None where they do not hold a whole one.
 #[tactic(auto, unfolding(crate::specs::Tables::item_at))]
-pub(crate) fn take_item(reader: &mut BitReader<'_>) -> Option<Item>
+pub(crate) fn take_item(reader: &mut Reader<'_>) -> Option<Item>
     ensures value { MatchOption result (item_at reader.old ≡ None) (λ item. item_at reader.old ≡ Some (lengths_of_item item, reader.new)) }
     ensures fits { IfSome result IsItem }
 {

@@ -7,9 +7,12 @@ mod fast;
 mod item;
 mod laws;
 mod order;
+mod reader;
 mod table;
+mod window;
 
 pub use decoder::{Decoder, Found};
 pub use laws::codes_are_prefix_free;
 pub use order::{Starts, starts_of};
 pub use table::read_table;
+pub use window::Window;

@@ -6,7 +6,8 @@ ghost use Rattle.exr_codes.specs.Codes.{weight_of, IsComplete};
 ghost use Rattle.exr_codes.specs.Tables.{table_of, lengths_at, is_filling, is_full};
 
 use crate::item::{Item, take_item};
-use exr_base::{BitReader, NoMemory};
+use crate::reader::Reader;
+use exr_base::NoMemory;
 use std::alloc::Global;
 
 /// What a code of so many bits takes of 2^58.
@@ -36,7 +37,7 @@ fn full(lengths: &[u8]) -> bool
 }
 
 /// Whether the bits that are left only fill a byte.
-fn filling(reader: &mut BitReader<'_>) -> bool
+fn filling(reader: &mut Reader<'_>) -> bool
     ensures { result ≡ is_filling reader.old }
 {
     if let Some(_) = reader.take(8) {
@@ -53,7 +54,7 @@ fn filling(reader: &mut BitReader<'_>) -> bool
 /// So many lengths, item by item, or None where the bits do not spell them.
 fn take_lengths(
     alloc: Global,
-    reader: &mut BitReader<'_>,
+    reader: &mut Reader<'_>,
     count: usize,
 ) -> Result<Option<Vec<u8>>, NoMemory>
     requires { count < 2 ^ 32 }
@@ -88,7 +89,7 @@ pub fn read_table(alloc: Global, bytes: &[u8], count: usize) -> Result<Option<Ve
     ensures complete { IfOk result (λ table. IfSome table (λ v. IsComplete v.items)) }
     ensures size { IfOk result (λ table. IfSome table (λ v. vec_len v ≡ count)) }
 {
-    let mut reader = BitReader::new(bytes, 8 * bytes.len() as u64);
+    let mut reader = Reader::new(bytes);
     let Some(lengths) = take_lengths(alloc, &mut reader, count)? else {
         return Ok(None);
     };

@@ -1,5 +1,3 @@
-pub mod Nine
-pub mod Rests
 pub mod Rested
 pub mod Progress
 pub mod Unpacking

@@ -7,11 +7,11 @@ use Rattle.exr_base.proofs.BitLists.{length-bits_of_bytes}
 use Rattle.exr_codes.specs.Codes.{IsComplete, entry_at}
 use Rattle.exr_codes.specs.Windows.{IsWindow, IsCodeAt}
 use Rattle.exr_codes.proofs.Intervals.{entry_at_found, entry_at_short}
-use Rattle.exr_huffman.specs.Rest.{rest_at}
+use Rattle.exr_codes.specs.Rest.{rest_at}
 use Rattle.exr_huffman.specs.Tokens.{word, more, token_at, run_entry}
 use Rattle.exr_huffman.specs.Blocks.{is_run}
 use Rattle.exr_huffman.specs.Nexts.{data_rest}
-use Rattle.exr_huffman.proofs.Rests.{length-rest_at}
+use Rattle.exr_codes.proofs.Rests.{length-rest_at}
 
 -- the data bits from a place on are the front of the rest
 pub front_of_rest : (bytes : List ℕ) (bits at n : ℕ) → bits ≤ 8 * length bytes → n ≤ length (data_rest bytes bits at) → take n (data_rest bytes bits at) ≡ take n (rest_at bytes at)

@@ -1,4 +1,3 @@
-pub mod Rest
 pub mod Tokens
 pub mod Blocks
 pub mod Nexts

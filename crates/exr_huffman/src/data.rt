@@ -6,13 +6,12 @@ ghost use Rattle.exr_base.specs.Refusal.{Gives};
 ghost use Rattle.exr_codes.specs.Codes.{IsComplete, entry_at};
 ghost use Rattle.exr_codes.specs.Windows.{IsCodeAt};
 ghost use Rattle.exr_huffman.specs.Blocks.{data_bits, data_words_of, is_run};
-ghost use Rattle.exr_huffman.specs.Rest.{rest_at};
+ghost use Rattle.exr_codes.specs.Rest.{rest_at};
 ghost use Rattle.exr_huffman.specs.Nexts.{IsNext, data_rest};
 
 use crate::fault::HufFault;
-use crate::window::Window;
 use exr_base::Refusal;
-use exr_codes::{Decoder, Found};
+use exr_codes::{Decoder, Found, Window};
 use std::alloc::Global;
 
 /// The code that begins the window, which is filled first where it does not hold the whole code, or few bits.
@@ -25,7 +24,7 @@ fn find(decoder: &Decoder, window: &mut Window<'_>) -> Found
     ensures at { window.new.at ≡ window.old.at }
     ensures bytes { window.new.bytes.now ≡ window.old.bytes.now }
 {
-    if window.have < 16 {
+    if window.have < 24 {
         window.refill();
     }
     let found = decoder.find(window.window);

@@ -6,7 +6,6 @@ mod data;
 mod fault;
 #[cfg(test)]
 mod tests;
-mod window;
 
 pub use block::unpack;
 pub use fault::HufFault;

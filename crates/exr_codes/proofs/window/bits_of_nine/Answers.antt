@@ -1,6 +1,6 @@
 use Rattle.std.proofs.Common.{ℕ, ◌<◌, sym, arith, get_or}
-use Rattle.exr_huffman.proofs.Nine.{bits_of_nine_is}
-use Rattle.exr_huffman.proofs.window.bits_of_nine.Goals as goal
+use Rattle.exr_codes.proofs.Nine.{bits_of_nine_is}
+use Rattle.exr_codes.proofs.window.bits_of_nine.Goals as goal
 
 pub returns : goal.returns
 returns c =

@@ -1,9 +1,9 @@
-//! The window of the decoding loop: the next bits of a slice, at the high end of a number of 64 bits.
+//! A window over the bits of a slice: the next ones stand at the high end of a number of 64 bits.
 
 ghost use Rattle.std.specs.Prelude.{◌≡◌, ℕ, ◌+◌, ◌-◌, ◌*◌, ◌^◌, ◌<◌, ◌≤◌, ◌++◌, length, take, drop, replicate};
 ghost use Rattle.exr_base.specs.Bits.{number_of, bits_of_bytes};
 ghost use Rattle.exr_codes.specs.Windows.{IsWindow};
-ghost use Rattle.exr_huffman.specs.Rest.{rest_at};
+ghost use Rattle.exr_codes.specs.Rest.{rest_at};
 
 /// The 64 bits behind the first `offset` bits of nine bytes.
 fn bits_of_nine(bytes: &[u8], offset: u32) -> u64
@@ -46,18 +46,19 @@ fn bits_at(bytes: &[u8], at: u64) -> u64
 
 /// The next bits of a slice: `have` of them stand at the high end of `window`, and `at` is the place of the first.
 #[derive(Drop)]
-pub(crate) struct Window<'a> {
-    pub(crate) bytes: &'a [u8],
-    pub(crate) at: u64,
-    pub(crate) window: u64,
-    pub(crate) have: u32,
-    ghost within: { at ≤ 8 * length bytes.now },
-    ghost few: { have ≤ 64 },
-    ghost filled: { IsWindow have (rest_at bytes.now at) window },
+pub struct Window<'a> {
+    pub bytes: &'a [u8],
+    pub at: u64,
+    pub window: u64,
+    pub have: u32,
+    pub ghost within: { at ≤ 8 * length bytes.now },
+    pub ghost few: { have ≤ 64 },
+    pub ghost filled: { IsWindow have (rest_at bytes.now at) window },
 }
 
 impl<'a> Window<'a> {
-    pub(crate) fn new(bytes: &'a [u8]) -> Window<'a>
+    /// A window at the front of a slice.
+    pub fn new(bytes: &'a [u8]) -> Window<'a>
         ensures bytes { result.bytes.now ≡ bytes.now }
         ensures at { result.at ≡ 0 }
     {
@@ -71,7 +72,7 @@ impl<'a> Window<'a> {
 
     /// Fills the window.
     #[inline(always)]
-    pub(crate) fn refill(&mut self)
+    pub fn refill(&mut self)
         ensures bytes { self.new.bytes.now ≡ self.old.bytes.now }
         ensures at { self.new.at ≡ self.old.at }
         ensures have { self.new.have ≡ 64 }
@@ -82,7 +83,7 @@ impl<'a> Window<'a> {
 
     /// Goes on behind `n` bits.
     #[inline(always)]
-    pub(crate) fn skip(&mut self, n: u32)
+    pub fn skip(&mut self, n: u32)
         requires some { n < 64 }
         requires have { n ≤ self.old.have }
         requires within { self.old.at + n ≤ 8 * length self.old.bytes.now }

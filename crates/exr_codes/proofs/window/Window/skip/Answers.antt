@@ -1,7 +1,7 @@
 use Rattle.std.proofs.Common.{arith}
-use Rattle.exr_huffman.specs.Rest.{rest_at}
-use Rattle.exr_huffman.proofs.Rests.{window_skipped, rest_at-skip, length-rest_at}
-use Rattle.exr_huffman.proofs.window.Window.skip.Goals as goal
+use Rattle.exr_codes.specs.Rest.{rest_at}
+use Rattle.exr_codes.proofs.Rests.{window_skipped, rest_at-skip, length-rest_at}
+use Rattle.exr_codes.proofs.window.Window.skip.Goals as goal
 
 pub invariant_of-self : goal.invariant_of-self
 invariant_of-self c =

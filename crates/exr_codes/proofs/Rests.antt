@@ -8,7 +8,7 @@ use Rattle.exr_base.proofs.BitLists.{length-bits_of_bytes, bits_of_bytes-cons, b
 use Rattle.exr_codes.proofs.BitFronts.{number_of-take}
 use Rattle.exr_codes.proofs.Padded.{take_padded}
 use Rattle.exr_codes.specs.Windows.{IsWindow}
-use Rattle.exr_huffman.specs.Rest.{rest_at}
+use Rattle.exr_codes.specs.Rest.{rest_at, bits_from}
 
 take_nil : {X : Type 0} (m : ℕ) (none : List X) → none ≡ [] → take m none ≡ []
 take_nil m none is = nil_from_length (take m none) (rw length-take (omega (arith, ap length is)))
@@ -85,3 +85,16 @@ length-rest_at bytes at = rw (length-drop, length-append, length-replicate, leng
 
 pub rest_at-skip : (bytes : List ℕ) (at n : ℕ) → rest_at bytes (at + n) ≡ drop n (rest_at bytes at)
 rest_at-skip bytes at n = sym (drop-drop n at (bits_of_bytes bytes ++ replicate 64 false))
+
+-- ---- the bits that are there
+
+pub length-bits_from : (bytes : List ℕ) (at : ℕ) → length (bits_from bytes at) ≡ 8 * length bytes - at
+length-bits_from bytes at = rw (length-drop, length-bits_of_bytes bytes) refl
+
+-- the high end of a window, as a number
+pub number_from_window : (bytes : List ℕ) (at have window n : ℕ) → at + n ≤ 8 * length bytes → n ≤ have → IsWindow have (rest_at bytes at) window → window / 2 ^ (64 - n) ≡ number_of (take n (bits_from bytes at))
+number_from_window bytes at have window n there fits filled =
+    let x = bits_of_bytes bytes in
+    let len = length-bits_of_bytes bytes in
+    let front : take n (rest_at bytes at) ≡ take n (bits_from bytes at) = ap (take n) (drop-append-le at x (replicate 64 false) (omega arith)) ∙ take-append-le n (drop at x) (replicate 64 false) (rw length-drop (omega arith)) in
+    sym (filled n fits (omega (arith, length-rest_at bytes at))) ∙ ap number_of front

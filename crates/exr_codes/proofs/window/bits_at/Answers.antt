@@ -1,8 +1,8 @@
 use Rattle.std.proofs.Common.{ℕ, ◌<◌, ◌≤◌, ◌++◌, List, length, ap, sym, ◌∙◌, take, drop, ◌%◌, ◌/◌, ◌-◌, replicate}
 use Rattle.std.proofs.lemmas.List.{take_rest}
 use Rattle.exr_base.specs.Bits.{number_of, bits_of_bytes}
-use Rattle.exr_huffman.proofs.Rests.{rest_long, rest_short}
-use Rattle.exr_huffman.proofs.window.bits_at.Goals as goal
+use Rattle.exr_codes.proofs.Rests.{rest_long, rest_short}
+use Rattle.exr_codes.proofs.window.bits_at.Goals as goal
 
 pub returns-then-rest-ge9 : goal.returns-then-rest-ge9
 returns-then-rest-ge9 c =
