@@ -6,3 +6,4 @@ pub mod Fronts
 pub mod Reading
 pub mod Nine
 pub mod Rests
+pub mod Filling

@@ -7,7 +7,6 @@ use Rattle.exr_base.specs.Bits.{number_of}
 use Rattle.exr_codes.specs.Tables.{item_at, lengths_of_number, run_at, lengths_within, lengths_at, is_filling, is_full, table_of, ◌>>=◌}
 use Rattle.std.specs.List.{sum_by}
 use Rattle.exr_base.specs.Bits.{bits_of_bytes}
-use Rattle.exr_base.proofs.BitLists.{length-bits_of_bytes}
 use Rattle.exr_codes.specs.Codes.{weight_of, IsComplete}
 
 -- what is read, with lengths in front of it
@@ -119,24 +118,6 @@ pub read_done : (count : ℕ) (bits all : List Bool) (front : List ℕ) (left : 
 read_done count bits all front left so_far none =
     sym so_far ∙ ap (λ n. behind front (lengths_at n bits)) none ∙ ap (behind front) (lengths_at-zero bits) ∙ ap (λ (xs : List ℕ). Some (xs, bits)) (append-nil front)
 
--- ---- lengths stay short
-
-pub short_push : (front : List ℕ) (len : ℕ) → ((k : ℕ) → get_or front k 0 ≤ 58) → len ≤ 58 → (k : ℕ) → get_or (front ++ len ∷ []) k 0 ≤ 58
-short_push [] len short small zero = small
-short_push [] len short small (suc k) = omega arith
-short_push (x ∷ front) len short small zero = short 0
-short_push (x ∷ front) len short small (suc k) = short_push front len (λ j. short (suc j)) small k
-
-zeros_short : (n k : ℕ) → get_or (replicate n 0) k 0 ≤ 58
-zeros_short zero k = omega arith
-zeros_short (suc n) zero = omega arith
-zeros_short (suc n) (suc k) = zeros_short n k
-
-pub short_zeros : (front : List ℕ) (n : ℕ) → ((k : ℕ) → get_or front k 0 ≤ 58) → (k : ℕ) → get_or (front ++ replicate n 0) k 0 ≤ 58
-short_zeros [] n short k = zeros_short n k
-short_zeros (x ∷ front) n short zero = short 0
-short_zeros (x ∷ front) n short (suc k) = short_zeros front n (λ j. short (suc j)) k
-
 -- ---- bits that only fill a byte
 
 -- a first bit of 0 does not count, and one of 1 does
@@ -162,9 +143,6 @@ unfolding is_filling
 filling_none bits few none = and_from (ltb (length bits) 8) (eqb (number_of bits) 0) (lt-ltb (length bits) 8 few) (eq-eqb (number_of bits) 0 none)
 
 -- ---- the whole table
-
-pub all_bits : (bytes : List ℕ) → take (8 * length bytes) (bits_of_bytes bytes) ≡ bits_of_bytes bytes
-all_bits bytes = take_all (8 * length bytes) (bits_of_bytes bytes) (omega (arith, length-bits_of_bytes bytes))
 
 pub table_none : (count : ℕ) (bytes : List ℕ) → lengths_at count (bits_of_bytes bytes) ≡ None → table_of count bytes ≡ None
 unfolding table_of

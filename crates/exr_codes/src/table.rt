@@ -1,14 +1,17 @@
 //! Reading a complete table of code lengths from the bytes that spell it.
 
-ghost use Rattle.std.specs.Prelude.{◌≡◌, ℕ, ◌+◌, ◌*◌, ◌^◌, ◌<◌, ◌≤◌, ◌==◌, length, slice_index, option_map, vec_len, IfOk, IfSome};
+ghost use Rattle.std.specs.Prelude.{◌≡◌, ℕ, ◌+◌, ◌^◌, ◌<◌, ◌≤◌, length, replicate, slice_index, min, option_map, vec_len, None, Some, MatchOption, IfOk, IfSome};
 ghost use Rattle.std.specs.List.{sum_by};
 ghost use Rattle.exr_codes.specs.Codes.{weight_of, IsComplete};
-ghost use Rattle.exr_codes.specs.Tables.{table_of, lengths_at, is_filling, is_full};
+ghost use Rattle.exr_codes.specs.Tables.{table_of, lengths_at, is_filling};
 
 use crate::item::{Item, take_item};
 use crate::reader::Reader;
 use exr_base::NoMemory;
 use std::alloc::Global;
+
+/// What all codes of a complete table take.
+const WHOLE: u64 = 1 << 58;
 
 /// What a code of so many bits takes of 2^58.
 fn weight(len: u8) -> u64
@@ -17,23 +20,6 @@ fn weight(len: u8) -> u64
     ensures small { result ≤ 2 ^ 58 }
 {
     if len == 0 { 0 } else { 1 << (58 - len) }
-}
-
-/// Whether the codes take all of 2^58.
-fn full(lengths: &[u8]) -> bool
-    requires { (k : ℕ) → slice_index lengths.now k ≤ 58 }
-    ensures { result ≡ is_full lengths.now }
-{
-    let mut total = 0u64;
-    for len in lengths {
-        if *len > 0 {
-            total += weight(*len);
-            if total > 1 << 58 {
-                return false;
-            }
-        }
-    }
-    total == 1 << 58
 }
 
 /// Whether the bits that are left only fill a byte.
@@ -51,34 +37,33 @@ fn filling(reader: &mut Reader<'_>) -> bool
     true
 }
 
-/// So many lengths, item by item, or None where the bits do not spell them.
-fn take_lengths(
-    alloc: Global,
-    reader: &mut Reader<'_>,
-    count: usize,
-) -> Result<Option<Vec<u8>>, NoMemory>
-    requires { count < 2 ^ 32 }
-    ensures value { IfOk result (λ read. option_map (λ v. (v.items, reader.new)) read ≡ lengths_at count reader.old) }
-    ensures short { IfOk result (λ read. IfSome read (λ v. (k : ℕ) → slice_index v.items k ≤ 58)) }
-    ensures size { IfOk result (λ read. IfSome read (λ v. vec_len v ≡ count)) }
+/// Writes lengths over zeros, item by item. Gives what their codes take of 2^58, or one more where they take more; None
+/// where the bits do not spell so many lengths.
+fn fill_lengths(reader: &mut Reader<'_>, lengths: &mut [u8]) -> Option<u64>
+    requires zeros { lengths.old ≡ replicate (length lengths.old) 0 }
+    ensures value { MatchOption result (lengths_at (length lengths.old) reader.old ≡ None) (λ total. lengths_at (length lengths.old) reader.old ≡ Some (lengths.new, reader.new)) }
+    ensures total { IfSome result (λ total. total ≡ min (sum_by weight_of lengths.new) (2 ^ 58 + 1)) }
+    ensures short { (k : ℕ) → slice_index lengths.new k ≤ 58 }
 {
-    let mut lengths = Vec::with_capacity(alloc, count)?;
-    'items: while lengths.len() < count {
-        let Some(item) = take_item(reader) else {
-            return Ok(None);
-        };
-        match item {
-            Item::Length(len) => lengths.push(len)?,
-            Item::Zeros(zeros) => {
-                let longer = lengths.len() + zeros as usize;
-                if longer > count {
-                    return Ok(None);
-                }
-                lengths.resize(longer, 0)?;
+    let mut count = 0;
+    let mut total = 0u64;
+    'items: while count < lengths.len() {
+        match take_item(reader) {
+            Some(Item::Length(len)) => {
+                lengths[count] = len;
+                count += 1;
+                total = (total + weight(len)).min(WHOLE + 1);
             }
+            Some(Item::Zeros(zeros)) => {
+                if zeros as usize > lengths.len() - count {
+                    return None;
+                }
+                count += zeros as usize;
+            }
+            None => return None,
         }
     }
-    Ok(Some(lengths))
+    Some(total)
 }
 
 /// The complete table of `count` lengths that all of the bytes spell, or None where they spell none.
@@ -90,10 +75,11 @@ pub fn read_table(alloc: Global, bytes: &[u8], count: usize) -> Result<Option<Ve
     ensures size { IfOk result (λ table. IfSome table (λ v. vec_len v ≡ count)) }
 {
     let mut reader = Reader::new(bytes);
-    let Some(lengths) = take_lengths(alloc, &mut reader, count)? else {
+    let mut lengths = vec![in alloc; 0u8; count]?;
+    let Some(total) = fill_lengths(&mut reader, &mut lengths) else {
         return Ok(None);
     };
-    if filling(&mut reader) && full(&lengths) {
+    if filling(&mut reader) && total == WHOLE {
         Ok(Some(lengths))
     } else {
         Ok(None)

@@ -7,13 +7,21 @@ ghost use Rattle.exr_encoder.specs.Spelling.{table_bits, zeros_at, zeros_bits};
 use exr_base::{BitWriter, NoMemory};
 use std::alloc::Global;
 
+/// How many entries one item can pass, where so many are left.
+fn most_zeros(left: usize) -> usize
+    ensures { result ≡ min 261 left }
+{
+    left.min(261)
+}
+
 /// How many entries without a code stand from place `at` on, at most 261.
 fn zeros_from(lengths: &[u8], at: usize) -> usize
     requires { at < length lengths.now }
     ensures { result ≡ zeros_at (drop at lengths.now) }
 {
+    let most = most_zeros(lengths.len() - at);
     let mut count = 0;
-    'zeros: while count < 261 && count < lengths.len() - at {
+    'zeros: while count < most {
         if lengths[at + count] != 0 {
             return count;
         }

@@ -24,7 +24,7 @@ fn find(decoder: &Decoder, window: &mut Window<'_>) -> Found
     ensures at { window.new.at ≡ window.old.at }
     ensures bytes { window.new.bytes.now ≡ window.old.bytes.now }
 {
-    if window.have < 24 {
+    if window.have < 20 {
         window.refill();
     }
     let found = decoder.find(window.window);
