@@ -1,5 +1,5 @@
 -- A table of lengths that is filled from its front on, over zeros.
-use Rattle.std.proofs.Common.{◌≡◌, ◌≢◌, ℕ, zero, suc, ◌+◌, ◌-◌, ◌^◌, ◌<◌, ◌≤◌, true, false, List, [], ◌∷◌, ◌++◌, length, take, drop, get_or, set, replicate, min, refl, sym, ap, ◌∙◌, inl, inr, arith}
+use Rattle.std.proofs.Common.{◌≡◌, ℕ, zero, suc, ◌+◌, ◌-◌, ◌^◌, ◌<◌, ◌≤◌, eqb, List, [], ◌∷◌, ◌++◌, length, take, drop, get_or, set, replicate, min, refl, sym, ap, ◌∙◌, inl, inr, arith}
 use Rattle.std.specs.List.{sum_by}
 use Rattle.std.proofs.Math.Seq.{take-add}
 use Rattle.std.proofs.lemmas.Bool.{cases_eq, eq-eqb, ne_eqb}
@@ -66,12 +66,10 @@ module _ (lengths : List ℕ) (count total : ℕ) (known : IsBegun lengths count
   pub filled_all : length lengths ≤ count → take count lengths ≡ lengths
   filled_all done = take_all count lengths done
 
--- whether the codes take all, by what they take or one more than all
-module _ (lengths : List ℕ) (total : ℕ) (sum : total ≡ min (sum_by weight_of lengths) (2 ^ 58 + 1)) where
-  pub total_is_full : total ≡ 2 ^ 58 → is_full lengths ≡ true
-  unfolding is_full
-  total_is_full all = eq-eqb (sum_by weight_of lengths) (2 ^ 58) (omega arith)
-
-  pub total_not_full : total ≢ 2 ^ 58 → is_full lengths ≡ false
-  unfolding is_full
-  total_not_full other = ne_eqb (sum_by weight_of lengths) (2 ^ 58) (λ all. other (omega arith))
+-- what all codes take, or one more than all, says whether they take all
+pub full_by_total : (lengths : List ℕ) (total : ℕ) → total ≡ min (sum_by weight_of lengths) (2 ^ 58 + 1) → eqb total (2 ^ 58) ≡ is_full lengths
+unfolding is_full
+full_by_total lengths total sum = elim (cases_eq total (2 ^ 58)) [
+  | inl all ↦ eq-eqb total (2 ^ 58) all ∙ sym (eq-eqb (sum_by weight_of lengths) (2 ^ 58) (omega arith))
+  | inr other ↦ ne_eqb total (2 ^ 58) other ∙ sym (ne_eqb (sum_by weight_of lengths) (2 ^ 58) (λ all. other (omega arith)))
+]

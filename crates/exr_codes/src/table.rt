@@ -3,7 +3,7 @@
 ghost use Rattle.std.specs.Prelude.{◌≡◌, ℕ, ◌+◌, ◌^◌, ◌<◌, ◌≤◌, length, replicate, slice_index, min, option_map, vec_len, None, Some, MatchOption, IfOk, IfSome};
 ghost use Rattle.std.specs.List.{sum_by};
 ghost use Rattle.exr_codes.specs.Codes.{weight_of, IsComplete};
-ghost use Rattle.exr_codes.specs.Tables.{table_of, lengths_at, is_filling};
+ghost use Rattle.exr_codes.specs.Tables.{table_of, lengths_at, is_filling, is_full};
 
 use crate::item::{Item, take_item};
 use crate::reader::Reader;
@@ -37,12 +37,21 @@ fn filling(reader: &mut Reader<'_>) -> bool
     true
 }
 
-/// Writes lengths over zeros, item by item. Gives what their codes take of 2^58, or one more where they take more; None
-/// where the bits do not spell so many lengths.
-fn fill_lengths(reader: &mut Reader<'_>, lengths: &mut [u8]) -> Option<u64>
+/// What codes take with one more, or one more than all where they take more.
+fn with_weight(total: u64, len: u8) -> u64
+    requires short { len ≤ 58 }
+    requires few { total ≤ 2 ^ 58 + 1 }
+    ensures { result ≡ min (total + weight_of len) (2 ^ 58 + 1) }
+{
+    (total + weight(len)).min(WHOLE + 1)
+}
+
+/// Writes lengths over zeros, item by item. Says whether their codes take all of 2^58; None where the bits do not spell
+/// so many lengths.
+fn fill_lengths(reader: &mut Reader<'_>, lengths: &mut [u8]) -> Option<bool>
     requires zeros { lengths.old ≡ replicate (length lengths.old) 0 }
-    ensures value { MatchOption result (lengths_at (length lengths.old) reader.old ≡ None) (λ total. lengths_at (length lengths.old) reader.old ≡ Some (lengths.new, reader.new)) }
-    ensures total { IfSome result (λ total. total ≡ min (sum_by weight_of lengths.new) (2 ^ 58 + 1)) }
+    ensures value { MatchOption result (lengths_at (length lengths.old) reader.old ≡ None) (λ full. lengths_at (length lengths.old) reader.old ≡ Some (lengths.new, reader.new)) }
+    ensures full { IfSome result (λ full. full ≡ is_full lengths.new) }
     ensures short { (k : ℕ) → slice_index lengths.new k ≤ 58 }
 {
     let mut count = 0;
@@ -52,7 +61,7 @@ fn fill_lengths(reader: &mut Reader<'_>, lengths: &mut [u8]) -> Option<u64>
             Some(Item::Length(len)) => {
                 lengths[count] = len;
                 count += 1;
-                total = (total + weight(len)).min(WHOLE + 1);
+                total = with_weight(total, len);
             }
             Some(Item::Zeros(zeros)) => {
                 if zeros as usize > lengths.len() - count {
@@ -63,7 +72,7 @@ fn fill_lengths(reader: &mut Reader<'_>, lengths: &mut [u8]) -> Option<u64>
             None => return None,
         }
     }
-    Some(total)
+    Some(total == WHOLE)
 }
 
 /// The complete table of `count` lengths that all of the bytes spell, or None where they spell none.
@@ -76,10 +85,10 @@ pub fn read_table(alloc: Global, bytes: &[u8], count: usize) -> Result<Option<Ve
 {
     let mut reader = Reader::new(bytes);
     let mut lengths = vec![in alloc; 0u8; count]?;
-    let Some(total) = fill_lengths(&mut reader, &mut lengths) else {
+    let Some(full) = fill_lengths(&mut reader, &mut lengths) else {
         return Ok(None);
     };
-    if filling(&mut reader) && total == WHOLE {
+    if filling(&mut reader) && full {
         Ok(Some(lengths))
     } else {
         Ok(None)

@@ -1,10 +1,9 @@
-use Rattle.std.proofs.Common.{◌≡◌, ◌+◌, ◌-◌, ◌<◌, ◌≤◌, ◌∷◌, ◌++◌, [], List, ℕ, Some, None, sym, ap, ◌∙◌, subst, arith, length, replicate, take}
+use Rattle.std.proofs.Common.{◌≡◌, ◌+◌, ◌-◌, ◌^◌, ◌<◌, ◌≤◌, ◌∷◌, [], List, ℕ, Some, ap, ◌∙◌, arith, length, min, replicate, take}
 use Rattle.std.proofs.lemmas.List.{length-replicate, length-set, take_more_set}
-use Rattle.exr_codes.specs.Items.{lengths_of_item, IsItem}
-use Rattle.exr_codes.specs.Tables.{item_at, lengths_at}
-use Rattle.exr_codes.specs.declared.item.Item.{Item}
-use Rattle.exr_codes.proofs.Filling.{begun_length, begun_zeros, taken_zeros, filled_all}
-use Rattle.exr_codes.proofs.Reading.{behind, read_none, read_long, read_more, read_done}
+use Rattle.std.specs.List.{sum_by}
+use Rattle.exr_codes.specs.Codes.{weight_of}
+use Rattle.exr_codes.proofs.Filling.{begun_length, begun_zeros, taken_zeros, filled_all, full_by_total}
+use Rattle.exr_codes.proofs.Reading.{read_none, read_long, read_more, read_done}
 use Rattle.exr_codes.proofs.table.fill_lengths.Goals as goal
 
 pub items-preserved-in-Some-Length : goal.items-preserved-in-Some-Length
@@ -20,7 +19,7 @@ items-preserved-in-Some-Length c =
     let more = read_more all c.items.reader c.args.reader.now (take count lengths) (all - count) known.so_far (omega arith) (len ∷ []) c.take_item.new.reader item (omega arith) in
     let fewer : (all - count) - 1 ≡ all - (count + 1) = omega arith in
     record {
-      begun = begun_length lengths count c.items.total known.begun len c.min-total.result inside small (c.min-total.ensures ∙ omega (arith, c.weight.ensures.value));
+      begun = begun_length lengths count c.items.total known.begun len c.with_weight-total.result inside small c.with_weight-total.ensures;
       so_far = rw (length-set lengths count len, take_more_set lengths count len inside, ← fewer) more;
     }
 
@@ -63,3 +62,9 @@ returns-clause-value c =
     let all = length lengths in
     let done : all ≤ c.items.count = c.items-test.false in
     rw (← c.items.auto.lengths) (read_done all c.items.reader c.args.reader.now (take c.items.count lengths) (all - c.items.count) known.so_far (omega arith) ∙ ap (λ (xs : List ℕ). Some (xs, c.items.reader)) (filled_all lengths c.items.count c.items.total known.begun done))
+
+pub returns-clause-full : goal.returns-clause-full
+returns-clause-full c =
+    let known = c.items.invariant.begun in
+    let lengths = c.items.lengths in
+    full_by_total lengths c.items.total (known.sum ∙ ap (λ (xs : List ℕ). min (sum_by weight_of xs) (2 ^ 58 + 1)) (filled_all lengths c.items.count c.items.total known c.items-test.false))

@@ -1,5 +1,4 @@
-use Rattle.std.proofs.Common.{◌≡◌, ◌-◌, ◌*◌, ◌/◌, ◌^◌, ◌≤◌, length, take, refl, ap, ◌∙◌, arith}
-use Rattle.exr_base.specs.Bits.{number_of}
+use Rattle.std.proofs.Common.{◌≡◌, ◌-◌, ◌*◌, length, refl, ap, ◌∙◌, arith}
 use Rattle.exr_codes.proofs.Rests.{length-bits_from, number_from_window}
 use Rattle.exr_codes.proofs.reader.Reader.take.Goals as goal
 use Rattle.exr_codes.proofs.reader.Reader.take.Goals.{then-self-n-2, else-self-n-2}
