@@ -77,7 +77,7 @@ pub has_name-push : (name : List ℕ) (es : List Entry) (e : Entry) → has_name
 has_name-push name [] e = or_false (is_named name e)
 has_name-push name (x ∷ xs) e = ap (λ (b : Bool). is_named name x || b) (has_name-push name xs e) ∙ or_assoc (is_named name x) (has_name name xs) (is_named name e)
 
-has_name-push_false : (name : List ℕ) (es : List Entry) (e : Entry) → has_name name es ≡ false → is_named name e ≡ false → has_name name (es ++ e ∷ []) ≡ false
+pub has_name-push_false : (name : List ℕ) (es : List Entry) (e : Entry) → has_name name es ≡ false → is_named name e ≡ false → has_name name (es ++ e ∷ []) ≡ false
 has_name-push_false name es e p q = has_name-push name es e ∙ rw (p, q) refl
 
 -- ---- names that are equal

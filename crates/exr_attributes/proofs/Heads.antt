@@ -19,7 +19,7 @@ use Rattle.exr_attributes.specs.Reading.{next_at, entries_at, header_at, past_of
 use Rattle.exr_attributes.proofs.Entries.{bytes_eq-comm, has_name-push}
 
 -- the order of names tells them apart as their bytes do
-is_eq-slice_cmp : (k q : List ℕ) → is_eq (slice_cmp nat_cmp k q) ≡ bytes_eq k q
+pub is_eq-slice_cmp : (k q : List ℕ) → is_eq (slice_cmp nat_cmp k q) ≡ bytes_eq k q
 is_eq-slice_cmp k q = same_from_slice_cmp nat_cmp is_eq bytes_eq refl (λ _ _. refl) (λ _ _. refl) (λ x y xs ys o h. grind (arith, nat_tests)) k q (slice_cmp nat_cmp k q) refl
 
 or_cond : (a b : Bool) → cond b true a ≡ (a || b)
@@ -80,9 +80,6 @@ runs_out i es p total le so_far =
 pub begins : (p : Position) → entries_at (2 ^ 24 - 0) [] p ≡ header_at p
 unfolding header_at
 begins p = refl
-
-pub known_at_first : (q : List ℕ) (es : List Entry) (names : BTreeSet (List ℕ)) → es ≡ [] → IsEmpty names → contains (slice_cmp nat_cmp) names q ≡ has_name q es
-known_at_first q es names e n = rw (e, n) refl
 
 -- an insert that found the name
 pub was_there : (e : Entry) (es : List Entry) (key : List ℕ) (added before : Bool) → key ≡ e.name → added ≡ not before → added ≡ false → before ≡ has_name key es → has_name e.name es ≡ true

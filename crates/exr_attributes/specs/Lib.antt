@@ -1,4 +1,5 @@
 pub mod Entry
 pub mod Fault
+pub mod Pass
 pub mod Reading
 pub mod Spelling

@@ -8,6 +8,7 @@ mod front;
 mod map;
 mod name;
 mod reading;
+mod seconds;
 mod value;
 mod writing;
 

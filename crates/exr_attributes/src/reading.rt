@@ -1,9 +1,10 @@
 //! Reading the attributes of a header.
 
-ghost use Rattle.std.specs.Prelude.{◌≡◌, ◌++◌, ℕ, List, length, Ok, IfOk};
+ghost use Rattle.std.specs.Prelude.{◌≡◌, ◌++◌, ℕ, List, [], length, Ok, IfOk};
 ghost use Rattle.exr_base.specs.Cursor.{left_of};
 ghost use Rattle.exr_attributes.specs.declared.attribute.Entry.{Entry};
 ghost use Rattle.exr_attributes.specs.Spelling.{header_spelling, IsBytes};
+ghost use Rattle.exr_attributes.specs.Pass.{IsPass};
 ghost use Rattle.exr_attributes.specs.Reading.{Reads, text_at, kind_at, value_at, entry_at, next_at, header_at, moved, IsSpelledAt};
 
 use crate::attribute::{Attribute, Entry};
@@ -11,10 +12,10 @@ use crate::fault::HeaderFault;
 use crate::front::{LONGEST, byte, head_bytes, head_number, past};
 use crate::map::AttributeMap;
 use crate::name::PackedName;
+use crate::seconds::first_second;
 use crate::value::AttributeValue;
-use exr_base::{Cursor, Refusal};
+use exr_base::{Cursor, NoMemory, Refusal};
 use std::alloc::Global;
-use std::collections::BTreeSet;
 
 /// A text and the zero behind it, which is among the next 256 bytes.
 fn text(alloc: Global, from: &mut Cursor) -> Result<Vec<u8>, Refusal<HeaderFault>>
@@ -108,25 +109,47 @@ pub fn read_attributes(
 }
 
 /// The attributes of one header.
+///
+/// Names are looked at last: a second one of a name comes before any fault behind it.
 fn header(alloc: Global, from: &mut Cursor) -> Result<AttributeMap, Refusal<HeaderFault>>
     ensures { Reads (λ map. map) result from.new (header_at from.old) }
 {
     let mut entries = Vec::new(alloc);
-    let mut names = BTreeSet::new(alloc);
+    let mut starts = Vec::new(alloc);
+    let fault = pass(alloc, from, &mut entries, &mut starts)?;
+    if let Some(second) = first_second(alloc, entries.as_slice())? {
+        return Err(Refusal::Fault(HeaderFault::Twice { at: starts[second] }));
+    }
+    match fault {
+        Some(fault) => Err(Refusal::Fault(fault)),
+        None => Ok(AttributeMap::of(entries)),
+    }
+}
+
+/// Reads entries and the places where they begin, up to the closing zero, or to the fault that it answers.
+fn pass(
+    alloc: Global,
+    from: &mut Cursor,
+    entries: &mut Vec<Entry>,
+    starts: &mut Vec<u64>,
+) -> Result<Option<HeaderFault>, NoMemory>
+    requires none { entries.now.items ≡ [] }
+    requires no_places { starts.now.items ≡ [] }
+    ensures { IfOk result (IsPass from.old from.new entries.new.items starts.new.items) }
+{
     for _i in 0..LONGEST {
         let start = from.at();
-        let entry = match next(alloc, from)? {
-            Some(entry) => entry,
-            None => return Ok(AttributeMap::of(entries)),
+        let entry = match next(alloc, from) {
+            Ok(Some(entry)) => entry,
+            Ok(None) => return Ok(None),
+            Err(Refusal::Fault(fault)) => return Ok(Some(fault)),
+            Err(Refusal::NoMemory) => return Err(NoMemory),
         };
         let _kind = entry.attribute.kind.bytes();
         let _value = entry.attribute.value.bytes();
         let _name = entry.name.bytes();
-        let name = entry.name.copy(alloc)?;
-        if !names.insert(name)? {
-            return Err(Refusal::Fault(HeaderFault::Twice { at: start as u64 }));
-        }
         entries.push(entry)?;
+        starts.push(start as u64)?;
     }
-    Err(Refusal::Fault(past(from)))
+    Ok(Some(past(from)))
 }

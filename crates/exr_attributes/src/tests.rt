@@ -72,6 +72,11 @@ fn faults_with_their_places(rt: HostRuntime) {
             &b"a\0t\0\0\0\0\0a\0t\0\0\0\0"[..],
             HeaderFault::Truncated { at: 15 },
         ),
+        // a second one of a name comes before what is behind it
+        (
+            &b"a\0t\0\0\0\0\0a\0t\0\0\0\0\0b\0t\0"[..],
+            HeaderFault::Twice { at: 8 },
+        ),
         (&[b'a'; 256][..], HeaderFault::BadName { at: 0 }),
         (&[b'a'; 255][..], HeaderFault::Truncated { at: 255 }),
         (&long[..], HeaderFault::Truncated { at: 270 }),
