@@ -13,8 +13,8 @@ use Rattle.exr_base.specs.Channel.{bytes_of}
 use Rattle.exr_base.specs.Sampling.{is_multiple, multiples_among, span_of}
 use Rattle.exr_base.specs.Shape.{width_of, height_of, raw_size_of, channel_bytes_of, IsSide, IsSampled}
 use Rattle.exr_base.proofs.RawSize.{by_channels}
-use Rattle.exr_header.specs.Kind.{is_tiled}
-use Rattle.exr_header.specs.Picture.{is_everywhere, is_aligned, first_end, first_region}
+use Rattle.exr_judge.specs.Kind.{is_tiled}
+use Rattle.exr_judge.specs.Picture.{is_everywhere, is_aligned, first_end, first_region}
 use Rattle.exr_chunks.specs.declared.part.Part.{Part}
 use Rattle.exr_chunks.specs.Heads.{Header, IsPicture, is_deep, pieces, chunk_width, chunk_height, chunk_count_of, raw_chunk_of}
 use Rattle.exr_chunks.specs.Region.{across_of, down_of, column_of, row_of, start_of, end_of, region_of, chunk_bytes_of}

@@ -9,7 +9,7 @@ use Rattle.exr_attributes.specs.declared.fault.HeaderFault.TheVariants.{Limit}
 use Rattle.exr_attributes.specs.declared.fault.Bound.TheVariants as bound
 use Rattle.exr_attributes.specs.declared.attribute.Entry.{Entry}
 use Rattle.exr_attributes.proofs.Texts.{bind_ok}
-use Rattle.exr_header.specs.Judging.{tested, sampling_fault, judged, header_judged, samplings_judged, version_judged, sizes_judged, count_judged, name_judged}
+use Rattle.exr_judge.specs.Judging.{tested, sampling_fault, judged, header_judged, samplings_judged, version_judged, sizes_judged, count_judged, name_judged}
 use Rattle.exr_header.specs.Head.{Head, flags_of, kind_read, part_read}
 use Rattle.exr_header.specs.Spells.{AreJudged, IsHead}
 use Rattle.exr_header.proofs.Judged.{passed_from}

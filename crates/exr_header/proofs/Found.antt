@@ -19,7 +19,7 @@ use Rattle.exr_attributes.specs.Spelling.{header_spelling, IsBytes, AreAttribute
 use Rattle.exr_attributes.specs.Reading.{moved, bytes_at, number_at, header_at}
 use Rattle.exr_attributes.proofs.Texts.{bind_ok}
 use Rattle.exr_attributes.proofs.Takes.{Taken, ok_is, passed, went_in, Taken-then, bytes_take, one_byte, number_takes, IsBytes-after, header_takes}
-use Rattle.exr_header.specs.declared.header.Header.{Header}
+use Rattle.exr_judge.specs.declared.header.Header.{Header}
 use Rattle.exr_header.specs.Head.{Head, magic, is_version, has_bit, word_at, version_at, part_read, ended_parts, last_at, parts_at, single_at, many_at, head_at, head_of, parts_spelling, closing, spelling_under}
 use Rattle.exr_header.specs.Spells.{AreHeaders, AreJudged, Spells, head_read}
 use Rattle.exr_header.proofs.Judged.{part_by_word, is_part}

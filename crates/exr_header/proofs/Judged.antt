@@ -14,15 +14,15 @@ use Rattle.exr_attributes.specs.declared.attribute.Entry.{Entry}
 use Rattle.exr_attributes.specs.Spelling.{AreAttributes}
 use Rattle.exr_attributes.proofs.Texts.{bind_ok}
 use Rattle.exr_attributes.proofs.Takes.{ok_is, went_in}
-use Rattle.exr_header.specs.declared.kind.PartKind.{PartKind}
-use Rattle.exr_header.specs.declared.kind.PartKind.TheVariants.{Scan, Tiled, DeepScan, DeepTiled}
-use Rattle.exr_header.specs.declared.kind.LineOrder.{LineOrder}
-use Rattle.exr_header.specs.declared.kind.Tiles.{Tiles}
-use Rattle.exr_header.specs.declared.kind.Flags.{Flags}
-use Rattle.exr_header.specs.declared.header.Header.{Header}
-use Rattle.exr_header.specs.Kind.{is_tiled, is_deep, is_kind}
-use Rattle.exr_header.specs.Fields.{value_of, needed_at, optional_at, first_fields, other_fields, file_fields, all_fields}
-use Rattle.exr_header.specs.Judging.{typed_kind, channels_judged, picture_of, samplings_judged, version_judged, sizes_judged, count_judged, name_judged, header_judged, judged}
+use Rattle.exr_judge.specs.declared.kind.PartKind.{PartKind}
+use Rattle.exr_judge.specs.declared.kind.PartKind.TheVariants.{Scan, Tiled, DeepScan, DeepTiled}
+use Rattle.exr_judge.specs.declared.kind.LineOrder.{LineOrder}
+use Rattle.exr_judge.specs.declared.kind.Tiles.{Tiles}
+use Rattle.exr_judge.specs.declared.kind.Flags.{Flags}
+use Rattle.exr_judge.specs.declared.header.Header.{Header}
+use Rattle.exr_judge.specs.Kind.{is_tiled, is_deep, is_kind}
+use Rattle.exr_judge.specs.Fields.{value_of, needed_at, optional_at, first_fields, other_fields, file_fields, all_fields}
+use Rattle.exr_judge.specs.Judging.{typed_kind, channels_judged, picture_of, samplings_judged, version_judged, sizes_judged, count_judged, name_judged, header_judged, judged}
 use Rattle.exr_header.specs.Head.{has_bit, flags_of, is_tiled_kind, kind_read, part_read, Given, kind_given, part_given}
 
 -- ---- the steps of judging

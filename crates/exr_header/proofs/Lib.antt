@@ -1,4 +1,3 @@
-pub mod Lists
 pub mod Settled
 pub mod Parts
 pub mod Judged
@@ -6,4 +5,3 @@ pub mod Version
 pub mod Spelled
 pub mod Found
 pub mod Rewritten
-pub mod Sides

@@ -13,9 +13,9 @@ use Rattle.exr_attributes.specs.declared.fault.HeaderFault.{HeaderFault}
 use Rattle.exr_attributes.specs.declared.attribute.Entry.{Entry}
 use Rattle.exr_attributes.specs.Reading.{Reads, header_at}
 use Rattle.exr_attributes.specs.Spelling.{AreAttributes}
-use Rattle.exr_header.specs.declared.header.Header.{Header}
-use Rattle.exr_header.specs.Picture.{chunk_count_of}
-use Rattle.exr_header.specs.declared.kind.Flags.{Flags}
+use Rattle.exr_judge.specs.declared.header.Header.{Header}
+use Rattle.exr_judge.specs.Picture.{chunk_count_of}
+use Rattle.exr_judge.specs.declared.kind.Flags.{Flags}
 use Rattle.exr_header.specs.Spells.{AreHeaders}
 use Rattle.exr_header.specs.Head.{some_parts, part_read, last_at, parts_at, Given, part_given, parts_given}
 

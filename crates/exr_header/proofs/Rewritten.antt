@@ -7,10 +7,10 @@ use Rattle.std.proofs.lemmas.List.{length-append, append-nil}
 use Rattle.exr_attributes.specs.declared.attribute.Entry.{Entry}
 use Rattle.exr_attributes.proofs.Texts.{bind_ok}
 use Rattle.exr_attributes.proofs.Takes.{ok_is}
-use Rattle.exr_header.specs.declared.kind.PartKind.{PartKind}
-use Rattle.exr_header.specs.declared.kind.Flags.{Flags}
-use Rattle.exr_header.specs.declared.header.Header.{Header}
-use Rattle.exr_header.specs.Kind.{is_deep}
+use Rattle.exr_judge.specs.declared.kind.PartKind.{PartKind}
+use Rattle.exr_judge.specs.declared.kind.Flags.{Flags}
+use Rattle.exr_judge.specs.declared.header.Header.{Header}
+use Rattle.exr_judge.specs.Kind.{is_deep}
 use Rattle.exr_header.specs.Head.{Head, magic, has_bit, is_tiled_kind, version_of, parts_spelling, closing, spelling_under, head_spelling, part_read, Given, flags_given, part_given, parts_given}
 use Rattle.exr_header.specs.Spells.{AreHeaders, AreJudged, Spells}
 use Rattle.exr_header.proofs.Judged.{part_by, part_by_word, is_part, part_by_multi, alone_again, IsMade, from_given, alone_given, many_given}

@@ -11,7 +11,7 @@ use Rattle.exr_attributes.specs.declared.fault.HeaderFault.TheVariants.{BadMagic
 use Rattle.exr_attributes.specs.declared.fault.Bound.TheVariants as bound
 use Rattle.exr_attributes.specs.Reading.{bytes_at, number_at, header_at}
 use Rattle.exr_attributes.proofs.Settled.{IsIn, longer, Settled, settled_then, settled_told, settled_if, bytes_settled, number_settled, header_settled}
-use Rattle.exr_header.specs.declared.header.Header.{Header}
+use Rattle.exr_judge.specs.declared.header.Header.{Header}
 use Rattle.exr_header.specs.Head.{Head, magic, is_version, has_bit, word_at, version_at, part_read, some_parts, ended_parts, last_at, parts_at, single_at, many_at, head_at, head_of}
 use Rattle.exr_header.specs.Settled.{IsCutShort, IsSettled}
 

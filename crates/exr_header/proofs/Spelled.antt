@@ -12,7 +12,7 @@ use Rattle.exr_attributes.specs.Spelling.{header_spelling}
 use Rattle.exr_attributes.specs.Reading.{moved}
 use Rattle.exr_attributes.proofs.Again.{Stands, moved-moved, front_of, back_of, bytes_again, number_again, header_again}
 use Rattle.exr_attributes.proofs.Takes.{ok_is}
-use Rattle.exr_header.specs.declared.header.Header.{Header}
+use Rattle.exr_judge.specs.declared.header.Header.{Header}
 use Rattle.exr_header.specs.Head.{Head, magic, is_version, word_at, version_at, last_at, parts_at, single_at, many_at, head_at, head_of, parts_spelling, closing, head_spelling}
 use Rattle.exr_header.specs.Spells.{AreHeaders, AreJudged, Spells, head_read, IsRead}
 use Rattle.exr_header.proofs.Judged.{has_entries}

@@ -2,7 +2,7 @@
 use Rattle.std.proofs.Common.{◌≡◌, ℕ, ◌+◌, Bool, true, false, ◌&&◌, refl}
 use Rattle.std.specs.Prelude.{not}
 use Rattle.std.specs.List.{list_any}
-use Rattle.exr_header.specs.Kind.{is_deep}
+use Rattle.exr_judge.specs.Kind.{is_deep}
 use Rattle.exr_header.specs.Head.{Head, is_version, has_bit, is_long_header, is_tiled_kind, bit_of, version_of}
 
 -- a word of version 2 has these bits

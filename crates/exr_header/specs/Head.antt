@@ -14,12 +14,12 @@ use Rattle.exr_attributes.specs.declared.fault.Bound.TheVariants as bound
 use Rattle.exr_attributes.specs.declared.attribute.Entry.{Entry}
 use Rattle.exr_attributes.specs.Reading.{bytes_at, number_at, header_at}
 use Rattle.exr_attributes.specs.Spelling.{header_spelling}
-use Rattle.exr_header.specs.declared.kind.PartKind.{PartKind}
-use Rattle.exr_header.specs.declared.kind.PartKind.TheVariants.{Scan, Tiled}
-use Rattle.exr_header.specs.declared.kind.Flags.{Flags}
-use Rattle.exr_header.specs.declared.header.Header.{Header}
-use Rattle.exr_header.specs.Kind.{is_deep, is_kind}
-use Rattle.exr_header.specs.Judging.{typed_kind, judged}
+use Rattle.exr_judge.specs.declared.kind.PartKind.{PartKind}
+use Rattle.exr_judge.specs.declared.kind.PartKind.TheVariants.{Scan, Tiled}
+use Rattle.exr_judge.specs.declared.kind.Flags.{Flags}
+use Rattle.exr_judge.specs.declared.header.Header.{Header}
+use Rattle.exr_judge.specs.Kind.{is_deep, is_kind}
+use Rattle.exr_judge.specs.Judging.{typed_kind, judged}
 
 -- a head: whether it is for many parts, and their headers
 pub record Head : Type 0 where

@@ -1,12 +1,4 @@
-pub mod Channels
-pub mod Fields
 pub mod Head
-pub mod Judging
 pub mod Settled
-pub mod Kind
-pub mod Name
-pub mod Next
-pub mod Picture
 pub mod Show
 pub mod Spells
-pub mod Words

@@ -7,15 +7,15 @@ use Rattle.exr_base.specs.declared.channel.Kind.TheVariants as sample
 use Rattle.exr_base.specs.declared.channel.Channel.{Channel}
 use Rattle.exr_base.specs.Method.{number_of}
 use Rattle.exr_attributes.specs.declared.attribute.Entry.{Entry}
-use Rattle.exr_header.specs.declared.kind.PartKind.{PartKind}
-use Rattle.exr_header.specs.declared.kind.PartKind.TheVariants.{Scan, Tiled, DeepScan, DeepTiled}
-use Rattle.exr_header.specs.declared.kind.LineOrder.{LineOrder}
-use Rattle.exr_header.specs.declared.kind.LineOrder.TheVariants.{Increasing, Decreasing, Random}
-use Rattle.exr_header.specs.declared.kind.Tiles.{Tiles}
-use Rattle.exr_header.specs.declared.header.Header.{Header}
+use Rattle.exr_judge.specs.declared.kind.PartKind.{PartKind}
+use Rattle.exr_judge.specs.declared.kind.PartKind.TheVariants.{Scan, Tiled, DeepScan, DeepTiled}
+use Rattle.exr_judge.specs.declared.kind.LineOrder.{LineOrder}
+use Rattle.exr_judge.specs.declared.kind.LineOrder.TheVariants.{Increasing, Decreasing, Random}
+use Rattle.exr_judge.specs.declared.kind.Tiles.{Tiles}
+use Rattle.exr_judge.specs.declared.header.Header.{Header}
 use Rattle.exr_header.specs.Head.{Head}
-use Rattle.exr_header.specs.Name.{part_name_of}
-use Rattle.exr_header.specs.Picture.{chunk_count_of}
+use Rattle.exr_judge.specs.Name.{part_name_of}
+use Rattle.exr_judge.specs.Picture.{chunk_count_of}
 
 -- a digit to the base 16, in lower case
 abbrev pub hex_digit : ℕ → ℕ

@@ -3,8 +3,8 @@
 use Rattle.std.specs.Prelude.{◌≡◌, ◌≤◌, ◌^◌, ℕ, true, false, List, [], ◌∷◌, ◌++◌, All, length, Result, Ok}
 use Rattle.exr_attributes.specs.declared.fault.HeaderFault.{HeaderFault}
 use Rattle.exr_attributes.specs.Spelling.{AreAttributes}
-use Rattle.exr_header.specs.declared.header.Header.{Header}
-use Rattle.exr_header.specs.Picture.{IsPicture}
+use Rattle.exr_judge.specs.declared.header.Header.{Header}
+use Rattle.exr_judge.specs.Picture.{IsPicture}
 use Rattle.exr_header.specs.Head.{Head, is_version, has_bit, part_read, spelling_under, head_spelling, head_of}
 
 -- the attributes of each header have a spelling: no name stands twice among them

@@ -2,21 +2,18 @@
 
 ghost use Rattle.std.specs.Prelude.{◌≡◌, ◌≤◌, ◌<◌, ◌+◌, ◌^◌, [], false, All, length, sum_by, IfOk};
 ghost use Rattle.exr_base.specs.Refusal.{Gives};
-ghost use Rattle.exr_header.specs.Kind.{is_deep, is_kind};
+ghost use Rattle.exr_judge.specs.Kind.{is_deep, is_kind};
 ghost use Rattle.std.specs.List.{list_any};
-ghost use Rattle.exr_header.specs.Picture.{chunk_count_of, IsPicture};
+ghost use Rattle.exr_judge.specs.Picture.{chunk_count_of, IsPicture};
 ghost use Rattle.exr_header.specs.Head.{flags_given, kind_given, part_given, parts_given, head_given};
 ghost use Rattle.exr_attributes.specs.Spelling.{AreAttributes};
 ghost use Rattle.exr_header.specs.Spells.{AreHeaders};
 
-use crate::checks::{chunk_count, judged};
 use crate::head::FileHead;
-use crate::header::Header;
-use crate::kind::{Flags, PartKind};
-use crate::picture::typed_kind;
 use crate::writing::spelling_of;
 use exr_attributes::{AttributeMap, Bound, HeaderFault};
 use exr_base::Refusal;
+use exr_judge::{Flags, Header, PartKind, chunk_count, judged, typed_kind};
 use std::alloc::Global;
 
 /// Whether two kinds are one.

@@ -2,7 +2,7 @@
 
 ghost use Rattle.std.specs.Prelude.{◌≡◌};
 
-use crate::header::Header;
+use exr_judge::Header;
 use std::marker::Model;
 
 /// The head of a file: a flag for many parts, and the headers, exactly one without the flag.
@@ -27,7 +27,7 @@ impl Model for FileHead {
 
 impl FileHead {
     ghost use Rattle.std.specs.Prelude.{◌≡◌, All};
-    ghost use Rattle.exr_header.specs.Picture.{IsPicture};
+    ghost use Rattle.exr_judge.specs.Picture.{IsPicture};
     ghost use Rattle.exr_header.specs.Spells.{IsHead};
 
     /// Whether the file has headers for many parts, though it may have one alone.

@@ -2,24 +2,15 @@
 //! is read is exactly what the bytes spell, or the first fault from the front.
 #![tactic(auto)]
 
-mod channels;
-mod checks;
-mod fields;
 mod given;
 mod head;
-mod header;
-mod kind;
 mod laws;
-mod picture;
 mod reading;
 mod show;
-mod words;
 mod writing;
 
-pub use channels::Channels;
+pub use exr_judge::{Channels, Header, LineOrder, PartKind, Tiles};
 pub use head::FileHead;
-pub use header::Header;
-pub use kind::{LineOrder, PartKind, Tiles};
 pub use laws::spellings_are_prefix_free;
 pub use reading::read_head;
 pub use show::show_head;

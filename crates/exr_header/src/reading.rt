@@ -3,20 +3,17 @@
 ghost use Rattle.std.specs.Prelude.{◌≡◌, ◌≤◌, ◌<◌, ◌+◌, ◌++◌, ◌^◌, ◌⊎◌, ℕ, List, [], All, length, take, sum_by, true, false, IfOk};
 ghost use Rattle.exr_base.specs.Refusal.{Gives};
 ghost use Rattle.exr_attributes.specs.Reading.{Reads};
-ghost use Rattle.exr_header.specs.Picture.{chunk_count_of, IsPicture};
+ghost use Rattle.exr_judge.specs.Picture.{chunk_count_of, IsPicture};
 ghost use Rattle.exr_header.specs.Head.{Head, head_from, has_bit, is_version, flags_of, word_at, version_at, kind_read, part_read, last_at, some_parts, parts_at, single_at, many_at, head_at, head_of};
 ghost use Rattle.exr_header.specs.Settled.{IsCutShort, IsSettled};
 ghost use Rattle.exr_header.specs.Spells.{Spells, head_read};
 
-use crate::checks::{chunk_count, judged};
 use crate::head::FileHead;
-use crate::header::Header;
-use crate::kind::{Flags, PartKind};
-use crate::picture::typed_kind;
 use exr_attributes::{
     AttributeMap, Bound, Field, HeaderFault, head_bytes, head_number, read_attributes,
 };
 use exr_base::{Cursor, Refusal};
+use exr_judge::{Flags, Header, PartKind, chunk_count, judged, typed_kind};
 use std::alloc::Global;
 
 /// Whether a version word has a bit, by its weight.

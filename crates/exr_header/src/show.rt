@@ -3,16 +3,14 @@
 ghost use Rattle.std.specs.Prelude.{◌≡◌, ◌<◌, ◌++◌, OnOk, IfOk};
 ghost use Rattle.std.specs.List.{flat_map};
 ghost use Rattle.std.specs.Fmt.{decimal, signed_decimal};
-ghost use Rattle.exr_header.specs.Name.{part_name_of};
-ghost use Rattle.exr_header.specs.Picture.{IsPicture};
+ghost use Rattle.exr_judge.specs.Name.{part_name_of};
+ghost use Rattle.exr_judge.specs.Picture.{IsPicture};
 ghost use Rattle.exr_header.specs.Show.{hex_digit, escaped_byte, escaped, kind_text, order_number, sample_number, name_text, part_front, part_method, corner, part_window, part_chunks, tiles_line, channel_front, channel_sampling, channel_line, entry_line, part_text, head_line, head_text};
 
-use crate::checks::chunk_count;
 use crate::head::FileHead;
-use crate::header::Header;
-use crate::kind::{LineOrder, PartKind, Tiles};
 use exr_attributes::Entry;
 use exr_base::{Channel, Kind, NoMemory};
+use exr_judge::{Header, LineOrder, PartKind, Tiles, chunk_count};
 use std::alloc::Global;
 
 /// A digit to the base 16, in lower case.
@@ -117,7 +115,7 @@ fn put_front(alloc: Global, part: u64, header: &Header, to: &mut Vec<u8>) -> Res
     to.extend_from_slice(b"part ")?;
     put_number(alloc, part, to)?;
     to.extend_from_slice(b" ")?;
-    to.extend_from_slice(kind_text(header.kind))?;
+    to.extend_from_slice(kind_text(header.kind()))?;
     to.extend_from_slice(b" name ")?;
     put_part_name(header, to)
 }
@@ -127,9 +125,9 @@ fn put_method(alloc: Global, header: &Header, to: &mut Vec<u8>) -> Result<(), No
     ensures { OnOk result (to.new.items ≡ to.old.items ++ part_method header.now) }
 {
     to.extend_from_slice(b" method ")?;
-    put_number(alloc, u64::from(header.method.number()), to)?;
+    put_number(alloc, u64::from(header.method().number()), to)?;
     to.extend_from_slice(b" order ")?;
-    put_number(alloc, order_number(header.order), to)
+    put_number(alloc, order_number(header.order()), to)
 }
 
 /// Appends a corner of a window.
@@ -147,8 +145,9 @@ fn put_window(alloc: Global, header: &Header, to: &mut Vec<u8>) -> Result<(), No
     ensures { OnOk result (to.new.items ≡ to.old.items ++ part_window header.now) }
 {
     to.extend_from_slice(b" window")?;
-    put_corner(alloc, header.window.x0, header.window.y0, to)?;
-    put_corner(alloc, header.window.x1, header.window.y1, to)?;
+    let window = header.window();
+    put_corner(alloc, window.x0, window.y0, to)?;
+    put_corner(alloc, window.x1, window.y1, to)?;
     Ok(())
 }
 
@@ -257,9 +256,9 @@ fn put_part(alloc: Global, part: u64, header: &Header, to: &mut Vec<u8>) -> Resu
     put_method(alloc, header, to)?;
     put_window(alloc, header, to)?;
     put_chunks(alloc, header, to)?;
-    put_tiles(alloc, header.tiles, to)?;
-    put_channels(alloc, header.channels.as_slice(), to)?;
-    put_entries(alloc, header.attributes.entries(), to)
+    put_tiles(alloc, header.tiles(), to)?;
+    put_channels(alloc, header.channels(), to)?;
+    put_entries(alloc, header.attributes().entries(), to)
 }
 
 /// Appends the first line.

@@ -2,15 +2,14 @@
 
 ghost use Rattle.std.specs.Prelude.{◌≡◌, ◌≤◌, ◌++◌, OnOk, IfOk};
 ghost use Rattle.std.specs.List.{list_any};
-ghost use Rattle.exr_header.specs.Kind.{is_deep};
+ghost use Rattle.exr_judge.specs.Kind.{is_deep};
 ghost use Rattle.exr_header.specs.Head.{is_long_entry, is_long_channel, is_long_header, is_tiled_kind, bit_of, version_of, parts_spelling, head_from, head_spelling};
 ghost use Rattle.exr_header.specs.Spells.{Spells, IsRead};
 
 use crate::head::FileHead;
-use crate::header::Header;
-use crate::kind::PartKind;
 use exr_attributes::{Entry, write_attributes};
 use exr_base::{Channel, NoMemory};
+use exr_judge::{Header, PartKind};
 use std::alloc::Global;
 
 /// Whether an entry has a long name or a long type.
@@ -45,7 +44,7 @@ fn has_long_channel(channels: &[Channel]) -> bool
 fn is_long_header(header: &Header) -> bool
     ensures { result ≡ is_long_header header.now }
 {
-    has_long_entry(header.attributes.entries()) || has_long_channel(header.channels.as_slice())
+    has_long_entry(header.attributes().entries()) || has_long_channel(header.channels())
 }
 
 /// A weight where a bit is set.
@@ -70,7 +69,7 @@ fn is_tiled_kind(kind: PartKind) -> bool
 fn has_tiles(parts: &[Header]) -> bool
     ensures { result ≡ list_any (λ p. is_tiled_kind p.kind) parts.now }
 {
-    parts.iter().any(|p| is_tiled_kind(p.kind))
+    parts.iter().any(|p| is_tiled_kind(p.kind()))
 }
 
 /// Whether one of some parts has a long name.
@@ -84,7 +83,7 @@ fn has_long_names(parts: &[Header]) -> bool
 fn has_deep_data(parts: &[Header]) -> bool
     ensures { result ≡ list_any (λ p. is_deep p.kind) parts.now }
 {
-    parts.iter().any(|p| p.kind.is_deep())
+    parts.iter().any(|p| p.kind().is_deep())
 }
 
 /// The version word of a head.
@@ -103,7 +102,7 @@ fn write_parts(alloc: Global, parts: &[Header], to: &mut Vec<u8>) -> Result<(), 
     ensures { OnOk result (to.new.items ≡ to.old.items ++ parts_spelling parts.now) }
 {
     for part in parts {
-        write_attributes(alloc, &part.attributes, to)?;
+        write_attributes(alloc, part.attributes(), to)?;
     }
     Ok(())
 }

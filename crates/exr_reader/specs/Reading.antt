@@ -3,7 +3,7 @@ use Rattle.std.specs.Prelude.{◌≡◌, ◌*◌, ◌<◌, ◌≤◌, ◌^◌, �
 use Rattle.exr_base.specs.declared.shape.Box2i.{Box2i}
 use Rattle.exr_base.specs.Shape.{width_of, height_of}
 use Rattle.exr_block.specs.declared.fault.ChunkFault.{ChunkFault}
-use Rattle.exr_header.specs.declared.header.Header.{Header}
+use Rattle.exr_chunks.specs.Heads.{Header}
 use Rattle.exr_header.specs.Head.{Head}
 use Rattle.exr_chunks.specs.Heads.{chunk_count_of}
 use Rattle.exr_chunks.specs.Region.{header_at}

@@ -7,7 +7,7 @@ use Rattle.exr_base.specs.Channel.{bytes_of}
 use Rattle.exr_base.specs.Sampling.{multiples_among}
 use Rattle.exr_base.specs.Shape.{row_bytes_of, lines_bytes_of}
 use Rattle.exr_block.specs.declared.fault.ChunkFault.{ChunkFault}
-use Rattle.exr_header.specs.declared.header.Header.{Header}
+use Rattle.exr_chunks.specs.Heads.{Header}
 use Rattle.exr_header.specs.Head.{Head}
 use Rattle.exr_chunks.specs.Region.{header_at, region_of}
 use Rattle.exr_chunks.specs.Pixels.{chunk_with}

@@ -8,7 +8,7 @@ use Rattle.exr_base.specs.declared.channel.Kind.TheVariants.{Half}
 use Rattle.exr_base.specs.declared.method.Method.{Method}
 use Rattle.exr_base.specs.declared.method.Method.TheVariants.{No}
 use Rattle.exr_base.specs.Shape.{width_of, height_of}
-use Rattle.exr_header.specs.declared.header.Header.{Header}
+use Rattle.exr_chunks.specs.Heads.{Header}
 use Rattle.exr_header.specs.Head.{Head}
 use Rattle.exr_chunks.specs.Heads.{is_deep}
 use Rattle.exr_chunks.specs.Region.{header_at}

@@ -1,7 +1,7 @@
 -- The entries in the tables that were read are those of the file.
 use Rattle.std.proofs.Common.{◌≡◌, ℕ, ◌+◌, ◌*◌, ◌<◌, ◌≤◌, List, length, take, drop, sum_by, Ok, Err, Result, refl, sym, ap, subst, ◌∙◌, arith}
 use Rattle.exr_block.specs.declared.fault.ChunkFault.TheVariants.{Outside}
-use Rattle.exr_header.specs.declared.header.Header.{Header}
+use Rattle.exr_chunks.specs.Heads.{Header}
 use Rattle.exr_chunks.specs.Heads.{chunk_count_of}
 use Rattle.exr_chunks.specs.Region.{header_at}
 use Rattle.exr_chunks.specs.Table.{chunks_before, entry_place}

@@ -3,7 +3,7 @@
 ghost use Rattle.std.specs.Prelude.{◌≡◌, ◌+◌, ◌≤◌, ◌<◌, ◌^◌, false, IsTrue, IfOk, OnOk, length, take, drop};
 ghost use Rattle.exr_outside.specs.Count.{Rose};
 ghost use Rattle.exr_outside.specs.Source.{IsSameSource};
-ghost use Rattle.exr_header.specs.Kind.{is_deep};
+ghost use Rattle.exr_chunks.specs.Heads.{is_deep};
 ghost use Rattle.exr_chunks.specs.Heads.{chunk_count_of};
 ghost use Rattle.exr_chunks.specs.Region.{header_at, region_of};
 ghost use Rattle.exr_block.specs.Body.{data_of};

@@ -3,7 +3,7 @@
 ghost use Rattle.std.specs.Prelude.{◌≡◌, ◌*◌, ◌≤◌, ◌<◌, ◌^◌, ℕ, List, IsTrue, IfOk, IfErr, length, take, drop};
 ghost use Rattle.exr_outside.specs.Count.{Rose};
 ghost use Rattle.exr_outside.specs.Source.{IsSameSource};
-ghost use Rattle.exr_header.specs.declared.header.Header.{Header};
+ghost use Rattle.exr_chunks.specs.Heads.{Header};
 ghost use Rattle.exr_header.specs.Head.{head_of};
 ghost use Rattle.exr_opening.specs.Opening.{OnlyReads};
 ghost use Rattle.exr_base.specs.Shape.{IsRegion};

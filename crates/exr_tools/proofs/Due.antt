@@ -3,7 +3,7 @@ use Rattle.std.proofs.Common.{◌≡◌, ◌<◌, ◌≤◌, ◌⊎◌, inl, inr
 use Rattle.std.proofs.lemmas.Bool.{cases_lt}
 use Rattle.exr_attributes.specs.declared.fault.HeaderFault.{HeaderFault}
 use Rattle.exr_block.specs.declared.fault.ChunkFault.{ChunkFault}
-use Rattle.exr_header.specs.declared.header.Header.{Header}
+use Rattle.exr_chunks.specs.Heads.{Header}
 use Rattle.exr_header.specs.Head.{Head, head_of}
 use Rattle.exr_chunks.specs.Heads.{chunk_count_of}
 use Rattle.exr_chunks.specs.Region.{header_at}

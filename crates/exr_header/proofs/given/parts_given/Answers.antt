@@ -1,10 +1,10 @@
 use Rattle.std.proofs.Common.{◌≡◌, List, [], ◌∷◌, Ok, subst, refl, ◌++◌, arith}
 use Rattle.std.proofs.lemmas.List.Elements.{All-same, All-nil, All-push}
 use Rattle.std.proofs.lemmas.List.{reverse-reverse, length-reverse}
-use Rattle.exr_header.specs.Picture.{IsPicture}
+use Rattle.exr_judge.specs.Picture.{IsPicture}
 use Rattle.std.proofs.lemmas.Result.{err_from_is_err_and}
 use Rattle.exr_base.specs.Refusal.{Refuses}
-use Rattle.exr_header.specs.declared.header.Header.{Header}
+use Rattle.exr_judge.specs.declared.header.Header.{Header}
 use Rattle.exr_header.specs.Head.{part_given, parts_given}
 use Rattle.exr_header.proofs.Parts.{given_goes_on, given_fails, given_ends, counted_more, AreHeaders-push}
 use Rattle.exr_header.proofs.given.parts_given.Goals as goal

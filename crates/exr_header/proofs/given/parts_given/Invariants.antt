@@ -1,5 +1,5 @@
 use Rattle.std.proofs.Common.{◌≡◌, All, ◌+◌, ◌≤◌, ◌^◌, [], length, sum_by, vec_len, reverse}
-use Rattle.exr_header.specs.Picture.{chunk_count_of, IsPicture}
+use Rattle.exr_judge.specs.Picture.{chunk_count_of, IsPicture}
 use Rattle.exr_header.specs.Head.{parts_given}
 use Rattle.exr_header.specs.Spells.{AreHeaders}
 use Rattle.exr_header.proofs.given.parts_given.Given as goal

@@ -1,10 +1,10 @@
 use Rattle.std.proofs.Common.{◌≡◌, List, [], ◌∷◌, Ok, length, subst, refl, ◌++◌, arith}
 use Rattle.std.proofs.lemmas.List.Elements.{All-same, All-nil, All-push}
-use Rattle.exr_header.specs.Picture.{IsPicture}
+use Rattle.exr_judge.specs.Picture.{IsPicture}
 use Rattle.std.proofs.lemmas.Result.{err_from_is_err_and}
 use Rattle.exr_base.specs.Refusal.{Refuses}
 use Rattle.exr_attributes.specs.Reading.{Reads}
-use Rattle.exr_header.specs.declared.header.Header.{Header}
+use Rattle.exr_judge.specs.declared.header.Header.{Header}
 use Rattle.exr_header.specs.Head.{part_read, parts_at}
 use Rattle.exr_header.proofs.Parts.{goes_on, ends, fails_header, fails_part, is_last, counted_more, is_zero, is_not_zero, all_same}
 use Rattle.exr_header.proofs.reading.parts.Goals as goal

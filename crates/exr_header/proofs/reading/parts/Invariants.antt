@@ -1,5 +1,5 @@
 use Rattle.std.proofs.Common.{◌≡◌, All, ◌-◌, ◌≤◌, ◌^◌, [], length, sum_by}
-use Rattle.exr_header.specs.Picture.{chunk_count_of, IsPicture}
+use Rattle.exr_judge.specs.Picture.{chunk_count_of, IsPicture}
 use Rattle.exr_header.specs.Head.{parts_at}
 use Rattle.exr_header.proofs.reading.parts.Given as goal
 

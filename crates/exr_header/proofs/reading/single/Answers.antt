@@ -1,6 +1,6 @@
 use Rattle.std.proofs.Common.{[], ◌∷◌}
 use Rattle.std.proofs.lemmas.List.Elements.{All-same, All-nil, All-cons}
-use Rattle.exr_header.specs.Picture.{IsPicture}
+use Rattle.exr_judge.specs.Picture.{IsPicture}
 use Rattle.exr_header.proofs.Parts.{pushed_alone}
 use Rattle.exr_header.proofs.reading.single.Goals as goal
 

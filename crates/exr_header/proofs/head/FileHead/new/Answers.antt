@@ -1,5 +1,5 @@
 use Rattle.std.proofs.Common.{◌≡◌, ◌≤◌, ◌^◌, [], Ok, length, subst, ap, ◌∙◌, arith}
-use Rattle.exr_header.specs.declared.kind.Flags.{Flags}
+use Rattle.exr_judge.specs.declared.kind.Flags.{Flags}
 use Rattle.exr_header.specs.Head.{head_from, head_spelling, flags_given, parts_given}
 use Rattle.exr_header.proofs.Rewritten.{given_spelled}
 use Rattle.exr_header.proofs.head.FileHead.new.Goals as goal

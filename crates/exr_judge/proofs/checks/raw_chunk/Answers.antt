@@ -1,0 +1,17 @@
+use Rattle.std.proofs.Common.{arith}
+use Rattle.std.proofs.lemmas.List.Elements.{All-same}
+use Rattle.exr_base.specs.Shape.{IsSampled}
+use Rattle.exr_judge.proofs.Sides.{table_small}
+use Rattle.exr_judge.proofs.checks.raw_chunk.Goals as goal
+
+pub overflow_mul-result-then-is_deep : goal.overflow_mul-result-then-is_deep
+overflow_mul-result-then-is_deep c =
+    let small = table_small c.min-across.result c.min-down.result (omega arith) (omega arith) in
+    omega (arith, small)
+
+pub raw_size-requires : goal.raw_size-requires
+raw_size-requires c = record {
+  few = rw c.as_slice.ensures.value c.requires.shape.few;
+  sampled = All-same IsSampled c.as_slice.result.now c.args.header.now.channels c.as_slice.ensures.value c.as_slice.ensures.sampled;
+  within = c.first_region.ensures.region;
+}
