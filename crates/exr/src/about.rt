@@ -7,11 +7,12 @@ exr reads OpenEXR files. Each command is a line of words KEY=VALUE.
       Prints what the head of a.exr says: of each part its kind, data window,
       channels and attributes. Every OpenEXR 2 file of one level is read.
 
-  exr extract in=a.exr out=b.raw
-      Writes the samples of a.exr into b.raw: a plane a channel, one behind the
-      other, each row by row from the top, every sample as the file has it. So
-      far a.exr has one part of scan lines with HALF channels of raw data, and
-      its chunks in order.
+  exr extract in=a.exr out=b.raw part=0
+      Writes the samples of a part of a.exr into b.raw: a plane a channel, one
+      behind the other, each row by row from the top, every sample as the file
+      has it. Parts count from 0, and part=0 can be left out. So far a part of
+      scan lines or tiles is read that has HALF channels, each with a sample at
+      every pixel, and no compression.
 
   exr --help       this text
   exr --version    the version
@@ -22,7 +23,8 @@ The status is 0, or says why the program stopped:
   3  a file is faulty; the line says which, from 0, and the fault's number
   4  a file could not be opened or read
   5  a file or standard output could not be written
-  7  the file is none of those that extract reads so far
+  6  what is asked of a file cannot be had; the line says why by a number
+  7  the part is none of those that extract reads so far
 ";
 
 const VERSION: &str = "exr 0.1.0\n";
@@ -50,10 +52,11 @@ mod tests {
         }
         for word in [
             "exr header in=a.exr",
-            "exr extract in=a.exr out=b.raw",
+            "exr extract in=a.exr out=b.raw part=0",
             "--help",
             "--version",
             "  3  ",
+            "  6  ",
             "  7  ",
         ] {
             assert!(rt; help.contains(word), "{word}");

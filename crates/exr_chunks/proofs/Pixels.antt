@@ -2,16 +2,14 @@
 use Rattle.std.proofs.Common.{◌≡◌, ℕ, ◌+◌, ◌-◌, ◌*◌, ◌/◌, ◌%◌, ◌<◌, ◌≤◌, refl, sym, ap, subst, ◌∙◌, arith, ℤ, pos, negsuc, ◌+ℤ◌, ◌-ℤ◌, ◌≤ℤ◌, nat_abs}
 use Rattle.std.proofs.lemmas.Nat.{div-mul-add, mod-mul-add, mul-add-lt, div-add-mod', mod_below, row-Below}
 use Rattle.std.proofs.lemmas.Int.{ints, clamps}
-use Rattle.std.specs.Int.{int_min}
-use Rattle.exr_base.specs.declared.shape.Box2i.{Box2i}
 use Rattle.exr_base.specs.Sampling.{span_of}
-use Rattle.exr_base.specs.Shape.{width_of, height_of, IsSide}
+use Rattle.exr_base.specs.Shape.{width_of, height_of}
 use Rattle.exr_chunks.specs.Heads.{Header, IsPicture, pieces, chunk_width, chunk_height, chunk_count_of}
 use Rattle.exr_chunks.specs.Region.{across_of, down_of, column_of, row_of, start_of, end_of, region_of}
-use Rattle.exr_chunks.specs.Pixels.{IsWithin, IsInside, chunk_with, HasOneChunk, HasOneChunkEach}
+use Rattle.exr_chunks.specs.Pixels.{IsInside, HasOneChunkEach}
 use Rattle.exr_chunks.proofs.Pieces.{span_is, piece_within}
 use Rattle.exr_chunks.proofs.Indexes.{piece_of}
-use Rattle.exr_chunks.proofs.Parts.{IsSize, side_some, width_size, height_size}
+use Rattle.exr_chunks.proofs.Parts.{side_some, width_size, height_size}
 
 -- ---- on a side
 

@@ -1,10 +1,9 @@
 -- Putting chunk after chunk.
-use Rattle.std.proofs.Common.{◌≡◌, ◌+◌, ◌-◌, ◌*◌, ◌<◌, ◌≤◌, ◌⊎◌, inl, inr, ℕ, zero, suc, ℤ, pos, negsuc, ◌+ℤ◌, ◌-ℤ◌, ◌≤ℤ◌, nat_abs, Bool, true, not, ◌&&◌, IsTrue, List, [], ◌∷◌, length, take, drop, slice_index, refl, sym, ap, subst, ◌∙◌, arith}
+use Rattle.std.proofs.Common.{◌≡◌, ◌+◌, ◌*◌, ◌<◌, ◌≤◌, inl, inr, ℕ, zero, suc, ℤ, pos, negsuc, ◌+ℤ◌, ◌-ℤ◌, ◌≤ℤ◌, nat_abs, true, not, ◌&&◌, IsTrue, List, [], ◌∷◌, length, take, drop, slice_index, refl, sym, ap, subst, ◌∙◌, arith}
 use Rattle.std.specs.List.{list_all}
 use Rattle.std.proofs.lemmas.Bool.{cases_lt, and_parts}
 use Rattle.std.proofs.lemmas.Int.{ints}
 use Rattle.exr_base.specs.declared.shape.Box2i.{Box2i}
-use Rattle.exr_base.specs.Channel.{bytes_of}
 use Rattle.exr_base.specs.Sampling.{span_of}
 use Rattle.exr_base.specs.Shape.{width_of, height_of, raw_size_of}
 use Rattle.exr_chunks.specs.Heads.{Header, is_deep, IsPicture, chunk_count_of}
@@ -15,7 +14,7 @@ use Rattle.exr_chunks.proofs.Pixels.{placed, region_inside, one_chunk}
 use Rattle.exr_reader.specs.declared.planes.Planes.{Planes}
 use Rattle.exr_reader.specs.declared.planes.Patch.{Patch}
 use Rattle.exr_reader.specs.Rows.{byte_place, raw_byte_place, bytes_of as plane_bytes_of, raw_bytes_of, IsOn, IsOutside, IsPut}
-use Rattle.exr_reader.specs.Sample.{channel_at, places_between, raw_place_of, sample_in}
+use Rattle.exr_reader.specs.Sample.{places_between, raw_place_of, sample_in}
 use Rattle.exr_reader.specs.Whole.{is_plain_channel, is_raw, is_plain, planes_size, place_in_planes, sample_at}
 use Rattle.exr_reader.specs.Reading.{ArePlanesFor, IsPatchOf, IsChunkPut}
 use Rattle.exr_reader.proofs.Places.{row_within}

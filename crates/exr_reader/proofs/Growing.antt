@@ -1,5 +1,5 @@
 -- Reading chunk after chunk.
-use Rattle.std.proofs.Common.{◌≡◌, ◌+◌, ◌-◌, ◌<◌, ◌≤◌, ◌++◌, inl, inr, ℕ, ℤ, IsTrue, List, length, take, drop, Result, Ok, Err, IfErr, refl, sym, ap, subst, ◌∙◌, arith, ◌≤ℤ◌}
+use Rattle.std.proofs.Common.{◌≡◌, ◌+◌, ◌<◌, ◌++◌, inl, inr, ℕ, IsTrue, List, length, take, drop, Result, Ok, Err, IfErr, refl, sym, ap, subst, ◌∙◌, arith}
 use Rattle.std.proofs.lemmas.Bool.{cases_lt}
 use Rattle.std.proofs.lemmas.Int.{ints}
 use Rattle.std.proofs.lemmas.List.{take_at}
@@ -7,12 +7,12 @@ use Rattle.exr_outside.specs.Source.{SourceMeaning}
 use Rattle.exr_header.specs.Head.{Head}
 use Rattle.exr_chunks.specs.Heads.{Header, IsPicture, chunk_count_of}
 use Rattle.exr_chunks.specs.Region.{header_at}
-use Rattle.exr_chunks.specs.Pixels.{IsWithin, chunk_with}
+use Rattle.exr_chunks.specs.Pixels.{chunk_with}
 use Rattle.exr_chunks.proofs.Pixels.{one_chunk}
 use Rattle.exr_stream.specs.Chunk.{chunk_of}
 use Rattle.exr_stream.specs.Stream.{StreamView, IsSameStream}
-use Rattle.exr_reader.specs.Sample.{data_or_none, raw_of, sample_in, sample_of}
-use Rattle.exr_reader.specs.Whole.{sample_at, planes_size, ArePlanesOf}
+use Rattle.exr_reader.specs.Sample.{data_or_none, raw_of, sample_in}
+use Rattle.exr_reader.specs.Whole.{planes_size, ArePlanesOf}
 use Rattle.exr_block.specs.declared.fault.ChunkFault.{ChunkFault}
 use Rattle.exr_reader.specs.declared.cause.ReadCause.{ReadCause}
 use Rattle.exr_reader.specs.declared.cause.ReadCause.TheVariants as why

@@ -1,5 +1,5 @@
 -- The raw data of HALF channels with a sample at each pixel.
-use Rattle.std.proofs.Common.{◌≡◌, ◌==◌, ◌+◌, ◌*◌, ◌%◌, ◌<◌, ◌≤◌, ◌&&◌, ℕ, zero, suc, ℤ, pos, ◌+ℤ◌, nat_abs, Bool, true, false, IsTrue, List, [], ◌∷◌, length, take, sum_by, if◌then◌else◌, refl, sym, ap, ◌∙◌, arith, eq-eqb, eqb-true}
+use Rattle.std.proofs.Common.{◌≡◌, ◌==◌, ◌+◌, ◌*◌, ◌%◌, ◌<◌, ◌≤◌, ◌&&◌, ℕ, zero, suc, ℤ, pos, ◌+ℤ◌, nat_abs, true, List, [], ◌∷◌, length, take, sum_by, if◌then◌else◌, refl, sym, ap, ◌∙◌, arith, eq-eqb, eqb-true}
 use Rattle.std.specs.List.{list_all}
 use Rattle.std.proofs.lemmas.List.Sums.{sum_by-cons}
 use Rattle.std.proofs.lemmas.List.{take_all}

@@ -1,5 +1,5 @@
 -- What reading answers.
-use Rattle.std.specs.Prelude.{◌≡◌, ◌*◌, ◌<◌, ◌≤◌, ◌^◌, ℕ, ℤ, IsTrue, List, length, Result, Ok, Err}
+use Rattle.std.specs.Prelude.{◌≡◌, ◌*◌, ◌<◌, ℕ, ℤ, List, length, Ok, Err}
 use Rattle.exr_base.specs.declared.shape.Box2i.{Box2i}
 use Rattle.exr_base.specs.Shape.{width_of, height_of}
 use Rattle.exr_block.specs.declared.fault.ChunkFault.{ChunkFault}

@@ -1,6 +1,6 @@
 -- The data window of a part as planes: a plane a channel, one behind the other, each with its rows from the top and its
 -- samples from left to right (own).
-use Rattle.std.specs.Prelude.{◌≡◌, ◌==◌, ◌+◌, ◌*◌, ◌<◌, ◌≤◌, ◌^◌, ◌&&◌, not, ℕ, ℤ, Bool, true, false, IsTrue, List, length, take, drop}
+use Rattle.std.specs.Prelude.{◌≡◌, ◌==◌, ◌+◌, ◌*◌, ◌<◌, ◌&&◌, not, ℕ, ℤ, Bool, true, false, List, length, take, drop}
 use Rattle.std.specs.List.{list_all}
 use Rattle.exr_base.specs.declared.channel.Channel.{Channel}
 use Rattle.exr_base.specs.declared.channel.Kind.{Kind}

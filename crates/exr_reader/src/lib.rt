@@ -5,6 +5,8 @@ mod cause;
 mod fetched;
 mod plain;
 mod planes;
+#[cfg(test)]
+mod tests;
 mod whole;
 
 pub use cause::ReadCause;

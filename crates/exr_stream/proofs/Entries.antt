@@ -1,10 +1,9 @@
 -- The entries in the tables that were read are those of the file.
-use Rattle.std.proofs.Common.{◌≡◌, ℕ, ◌+◌, ◌*◌, ◌<◌, ◌≤◌, List, length, take, drop, sum_by, Ok, Err, Result, refl, sym, ap, subst, ◌∙◌, arith}
+use Rattle.std.proofs.Common.{◌≡◌, ℕ, ◌+◌, ◌*◌, ◌<◌, ◌≤◌, List, length, drop, sum_by, Err, ap, subst, ◌∙◌, arith}
 use Rattle.exr_block.specs.declared.fault.ChunkFault.TheVariants.{Outside}
-use Rattle.exr_chunks.specs.Heads.{Header}
 use Rattle.exr_chunks.specs.Heads.{chunk_count_of}
 use Rattle.exr_chunks.specs.Region.{header_at}
-use Rattle.exr_chunks.specs.Table.{chunks_before, entry_place}
+use Rattle.exr_chunks.specs.Table.{entry_place}
 use Rattle.exr_stream.specs.declared.front.Front.{Front}
 use Rattle.exr_stream.specs.Chunk.{entry_in}
 use Rattle.exr_stream.specs.Stream.{IsFront, IsFrontOf}

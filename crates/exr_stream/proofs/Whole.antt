@@ -1,7 +1,7 @@
 -- What is read of a chunk is what the whole file has of it.
-use Rattle.std.proofs.Common.{◌≡◌, ℕ, ◌+◌, ◌-◌, ◌*◌, ◌<◌, ◌≤◌, ◌⊎◌, inl, inr, min, nat_le, bytes_eq, List, [], length, take, drop, Result, Ok, Err, if◌then◌else◌, cond, Bool, true, false, refl, sym, ap, subst, ◌∙◌, arith}
+use Rattle.std.proofs.Common.{◌≡◌, ℕ, ◌+◌, ◌-◌, ◌*◌, ◌<◌, ◌≤◌, ◌⊎◌, inl, inr, min, bytes_eq, List, length, take, drop, Ok, Err, if◌then◌else◌, Bool, true, false, refl, sym, ap, ◌∙◌, arith}
 use Rattle.std.proofs.lemmas.Bool.{le-leb, lt-leb, leb-true, eqb-true, cases_lt}
-use Rattle.std.proofs.lemmas.List.{take-take, take_all, take_min, drop-take, drop-drop, length-take, length-drop, drop_all}
+use Rattle.std.proofs.lemmas.List.{take-take, take_min, drop-take, drop-drop, length-take, length-drop}
 use Rattle.exr_base.specs.declared.method.Method.{Method}
 use Rattle.exr_base.specs.declared.method.Method.TheVariants.{No, Rle, Zips, Zip, Piz, Pxr24, B44, B44a, Dwaa, Dwab}
 use Rattle.exr_base.specs.Refusal.{◌>>=◌}

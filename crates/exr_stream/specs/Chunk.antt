@@ -7,7 +7,6 @@ use Rattle.exr_base.specs.declared.method.Method.{Method}
 use Rattle.exr_block.specs.declared.fault.ChunkFault.{ChunkFault}
 use Rattle.exr_block.specs.declared.fault.ChunkFault.TheVariants.{Unwritten, Outside, WrongPlace, WrongSize}
 use Rattle.exr_block.specs.Sizes.{is_size}
-use Rattle.exr_chunks.specs.Heads.{Header}
 use Rattle.exr_header.specs.Head.{Head}
 use Rattle.exr_chunks.specs.Region.{header_at, chunk_bytes_of, place_of}
 use Rattle.exr_chunks.specs.Table.{entry_place}

@@ -7,6 +7,8 @@ mod fetch;
 mod fields;
 mod front;
 mod stream;
+#[cfg(test)]
+mod tests;
 
 pub use exr_opening::OpenFault;
 pub use fault::FetchFault;

@@ -1,21 +1,19 @@
 -- The input of a command calls for one stop at the most, and for none where its samples can be read.
-use Rattle.std.proofs.Common.{◌≡◌, ◌<◌, ◌≤◌, ◌⊎◌, inl, inr, ℕ, nat_lt, nat_le, ◌^◌, IsTrue, Bool, true, List, length, Option, Some, None, Result, Ok, Err, OnOk, IfErr, if◌then◌else◌, refl, sym, ap, subst, ◌∙◌, arith, le-leb, lt-ltb}
+use Rattle.std.proofs.Common.{◌≡◌, ◌⊎◌, inl, inr, ℕ, ◌^◌, List, length, Option, Some, None, Result, Ok, Err, OnOk, IfErr, if◌then◌else◌, sym, ap, subst, ◌∙◌, arith, le-leb, lt-ltb}
 use Rattle.std.proofs.lemmas.Bool.{cases_lt}
 use Rattle.exr_attributes.specs.declared.fault.HeaderFault.{HeaderFault}
 use Rattle.exr_block.specs.declared.fault.ChunkFault.{ChunkFault}
-use Rattle.exr_chunks.specs.Heads.{Header}
 use Rattle.exr_header.specs.Head.{Head, head_of}
-use Rattle.exr_chunks.specs.Heads.{chunk_count_of}
 use Rattle.exr_chunks.specs.Region.{header_at}
 use Rattle.exr_stream.specs.Chunk.{chunk_of}
-use Rattle.exr_reader.specs.Whole.{is_plain, planes_size}
-use Rattle.exr_reader.specs.Reading.{HasData, IsFirstFault}
+use Rattle.exr_reader.specs.Whole.{planes_size}
+use Rattle.exr_reader.specs.Reading.{IsFirstFault}
 use Rattle.exr_tools.specs.declared.request.RequestFault.TheVariants.{NoPart, TooLarge}
 use Rattle.exr_tools.specs.declared.stop.Stop.{Stop}
 use Rattle.exr_tools.specs.declared.stop.Stop.TheVariants.{NoMemory, Words, File, Read, Write, Request, Form}
 use Rattle.exr_tools.specs.declared.stop.FileFault.TheVariants as fault
 use Rattle.exr_tools.specs.Request.{size_refused, form_refused, request_refused, IsReadable}
-use Rattle.exr_tools.specs.Run.{HasPart, IsExtracted, IsRefused, HasFirstFault, IsUnread, HasReason, OwesRise, StopsOr}
+use Rattle.exr_tools.specs.Run.{HasPart, IsRefused, HasFirstFault, IsUnread, HasReason, OwesRise, StopsOr}
 
 -- ---- heads and requests
 

@@ -1,5 +1,5 @@
 -- What holds of an accepted call.
-use Rattle.std.proofs.Common.{◌≡◌, Result, Ok, Err, OnOk}
+use Rattle.std.proofs.Common.{Result, Ok, Err, OnOk}
 
 -- a fact that stands on what is told
 pub on_ok : {A E : Type 0} (r : Result A E) (T P Q : Type 0) → ((T → P) → Q) → (T → OnOk r P) → OnOk r Q

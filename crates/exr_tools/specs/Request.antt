@@ -1,5 +1,5 @@
 -- What is asked of a file's head before its samples are read (own).
-use Rattle.std.specs.Prelude.{◌≡◌, ◌<◌, ◌≤◌, ◌^◌, nat_lt, nat_le, ℕ, IsTrue, length, Option, Some, None, if◌then◌else◌}
+use Rattle.std.specs.Prelude.{◌<◌, ◌≤◌, ◌^◌, nat_lt, nat_le, ℕ, IsTrue, length, Option, Some, None, if◌then◌else◌}
 use Rattle.exr_chunks.specs.Heads.{Header}
 use Rattle.exr_header.specs.Head.{Head}
 use Rattle.exr_chunks.specs.Region.{header_at}

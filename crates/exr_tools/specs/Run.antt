@@ -1,13 +1,11 @@
 -- What the top call leaves, and why it stops.
 use Rattle.std.specs.Prelude.{◌≡◌, ◌⊎◌, ℕ, List, [], ◌∷◌, ◌++◌, length, unwrap_or, Some, Result, Ok, Err, MatchResult}
-use Rattle.exr_attributes.specs.declared.fault.HeaderFault.{HeaderFault}
 use Rattle.exr_header.specs.Head.{Head, head_of}
 use Rattle.exr_header.specs.Show.{head_text}
 use Rattle.exr_words.specs.Command.{Command, header, extract, first_of}
 use Rattle.exr_words.specs.Words.{command_of}
 use Rattle.exr_tools.specs.declared.stop.Stop.{Stop}
 use Rattle.exr_tools.specs.declared.stop.Stop.TheVariants.{NoMemory, Words, File, Read, Write, Request, Form}
-use Rattle.exr_tools.specs.declared.stop.FileFault.{FileFault}
 use Rattle.exr_tools.specs.declared.stop.FileFault.TheVariants as fault
 use Rattle.exr_block.specs.declared.fault.ChunkFault.{ChunkFault}
 use Rattle.exr_chunks.specs.Heads.{chunk_count_of}

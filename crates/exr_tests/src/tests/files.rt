@@ -117,28 +117,6 @@ pub const FALLING: &[u8] = b"\
 pub const FALLING_RAW: &[u8] = b"\
     \x11<\"<";
 
-/// A HALF and a FLOAT channel, four by three.
-pub const HALF_AND_FLOAT: &[u8] = b"\
-    v/1\x01\x02\0\0\0channels\0chlist\0%\0\0\0G\0\x01\0\0\0\0\0\0\0\x01\0\0\0\x01\0\0\0Z\0\x02\0\0\
-    \0\0\0\0\0\x01\0\0\0\x01\0\0\0\0compression\0compression\0\x01\0\0\0\0dataWindow\0box2i\0\x10\0\
-    \0\0\0\0\0\0\0\0\0\0\x03\0\0\0\x02\0\0\0displayWindow\0box2i\0\x10\0\0\0\0\0\0\0\0\0\0\0\x03\0\
-    \0\0\x02\0\0\0lineOrder\0lineOrder\0\x01\0\0\0\0pixelAspectRatio\0float\0\x04\0\0\0\0\0\x80?scr\
-    eenWindowCenter\0v2f\0\x08\0\0\0\0\0\0\0\0\0\0\0screenWindowWidth\0float\0\x04\0\0\0\0\0\x80?\0\
-    ?\x01\0\0\0\0\0\0_\x01\0\0\0\0\0\0\x7f\x01\0\0\0\0\0\0\0\0\0\0\x18\0\0\0\0<\x01<\x02<\x03<\0\0\
-    \x80?\x10\0\x80?\x20\0\x80?0\0\x80?\x01\0\0\0\x18\0\0\0\x04<\x05<\x06<\x07<@\0\x80?P\0\x80?`\0\
-    \x80?p\0\x80?\x02\0\0\0\x18\0\0\0\x08<\x09<\x0a<\x0b<\x80\0\x80?\x90\0\x80?\xa0\0\x80?\xb0\0\
-    \x80?";
-
-/// One HALF channel sampled two by two.
-pub const SAMPLED: &[u8] = b"\
-    v/1\x01\x02\0\0\0channels\0chlist\0\x13\0\0\0Y\0\x01\0\0\0\0\0\0\0\x02\0\0\0\x02\0\0\0\0compres\
-    sion\0compression\0\x01\0\0\0\0dataWindow\0box2i\0\x10\0\0\0\xfe\xff\xff\xff\xfe\xff\xff\xff\
-    \x01\0\0\0\x01\0\0\0displayWindow\0box2i\0\x10\0\0\0\xfe\xff\xff\xff\xfe\xff\xff\xff\x01\0\0\0\
-    \x01\0\0\0lineOrder\0lineOrder\0\x01\0\0\0\0pixelAspectRatio\0float\0\x04\0\0\0\0\0\x80?screenW\
-    indowCenter\0v2f\0\x08\0\0\0\0\0\0\0\0\0\0\0screenWindowWidth\0float\0\x04\0\0\0\0\0\x80?\05\
-    \x01\0\0\0\0\0\0A\x01\0\0\0\0\0\0I\x01\0\0\0\0\0\0U\x01\0\0\0\0\0\0\xfe\xff\xff\xff\x04\0\0\0\
-    \x01\0\x02\0\xff\xff\xff\xff\0\0\0\0\0\0\0\0\x04\0\0\0\x03\0\x04\0\x01\0\0\0\0\0\0\0";
-
 /// Two deep pixels.
 pub const DEEP: &[u8] = b"\
     v/1\x01\x02\x08\0\0channels\0chlist\0%\0\0\0A\0\x01\0\0\0\0\0\0\0\x01\0\0\0\x01\0\0\0Z\0\x02\0\
@@ -150,29 +128,3 @@ pub const DEEP: &[u8] = b"\
     hunkCount\0int\0\x04\0\0\0\x01\0\0\0maxSamplesPerPixel\0int\0\x04\0\0\0\xff\xff\xff\xff\0\xa9\
     \x01\0\0\0\0\0\0\0\0\0\0\x08\0\0\0\0\0\0\0\x12\0\0\0\0\0\0\0\x12\0\0\0\0\0\0\0\x01\0\0\0\x03\0\
     \0\0\x010\x040\x050\x20\x06\0?P\x06\0?`\x06\0?";
-
-/// Sixteen by thirty-two under run lengths.
-pub const RUN_LENGTHS: &[u8] = b"\
-    v/1\x01\x02\0\0\0channels\0chlist\0\x13\0\0\0Y\0\x01\0\0\0\0\0\0\0\x01\0\0\0\x01\0\0\0\0compres\
-    sion\0compression\0\x01\0\0\0\x01dataWindow\0box2i\0\x10\0\0\0\0\0\0\0\0\0\0\0\x0f\0\0\0\x1f\0\
-    \0\0displayWindow\0box2i\0\x10\0\0\0\0\0\0\0\0\0\0\0\x0f\0\0\0\x1f\0\0\0lineOrder\0lineOrder\0\
-    \x01\0\0\0\0pixelAspectRatio\0float\0\x04\0\0\0\0\0\x80?screenWindowCenter\0v2f\0\x08\0\0\0\0\0\
-    \0\0\0\0\0\0screenWindowWidth\0float\0\x04\0\0\0\0\0\x80?\0\x15\x02\0\0\0\0\0\0!\x02\0\0\0\0\0\
-    \0-\x02\0\0\0\0\0\09\x02\0\0\0\0\0\0E\x02\0\0\0\0\0\0Q\x02\0\0\0\0\0\0]\x02\0\0\0\0\0\0i\x02\0\
-    \0\0\0\0\0u\x02\0\0\0\0\0\0\x81\x02\0\0\0\0\0\0\x8d\x02\0\0\0\0\0\0\x99\x02\0\0\0\0\0\0\xa5\x02\
-    \0\0\0\0\0\0\xb1\x02\0\0\0\0\0\0\xbd\x02\0\0\0\0\0\0\xc9\x02\0\0\0\0\0\0\xd5\x02\0\0\0\0\0\0\
-    \xe1\x02\0\0\0\0\0\0\xed\x02\0\0\0\0\0\0\xf9\x02\0\0\0\0\0\0\x05\x03\0\0\0\0\0\0\x11\x03\0\0\0\
-    \0\0\0\x1d\x03\0\0\0\0\0\0)\x03\0\0\0\0\0\05\x03\0\0\0\0\0\0A\x03\0\0\0\0\0\0M\x03\0\0\0\0\0\0Y\
-    \x03\0\0\0\0\0\0e\x03\0\0\0\0\0\0q\x03\0\0\0\0\0\0}\x03\0\0\0\0\0\0\x89\x03\0\0\0\0\0\0\0\0\0\0\
-    \x04\0\0\0\xff\0\x1e\x80\x01\0\0\0\x04\0\0\0\xff\0\x1e\x80\x02\0\0\0\x04\0\0\0\xff\0\x1e\x80\
-    \x03\0\0\0\x04\0\0\0\xff\0\x1e\x80\x04\0\0\0\x04\0\0\0\xff\0\x1e\x80\x05\0\0\0\x04\0\0\0\xff\0\
-    \x1e\x80\x06\0\0\0\x04\0\0\0\xff\0\x1e\x80\x07\0\0\0\x04\0\0\0\xff\0\x1e\x80\x08\0\0\0\x04\0\0\
-    \0\xff\0\x1e\x80\x09\0\0\0\x04\0\0\0\xff\0\x1e\x80\x0a\0\0\0\x04\0\0\0\xff\0\x1e\x80\x0b\0\0\0\
-    \x04\0\0\0\xff\0\x1e\x80\x0c\0\0\0\x04\0\0\0\xff\0\x1e\x80\x0d\0\0\0\x04\0\0\0\xff\0\x1e\x80\
-    \x0e\0\0\0\x04\0\0\0\xff\0\x1e\x80\x0f\0\0\0\x04\0\0\0\xff\0\x1e\x80\x10\0\0\0\x04\0\0\0\xff\0\
-    \x1e\x80\x11\0\0\0\x04\0\0\0\xff\0\x1e\x80\x12\0\0\0\x04\0\0\0\xff\0\x1e\x80\x13\0\0\0\x04\0\0\
-    \0\xff\0\x1e\x80\x14\0\0\0\x04\0\0\0\xff\0\x1e\x80\x15\0\0\0\x04\0\0\0\xff\0\x1e\x80\x16\0\0\0\
-    \x04\0\0\0\xff\0\x1e\x80\x17\0\0\0\x04\0\0\0\xff\0\x1e\x80\x18\0\0\0\x04\0\0\0\xff\0\x1e\x80\
-    \x19\0\0\0\x04\0\0\0\xff\0\x1e\x80\x1a\0\0\0\x04\0\0\0\xff\0\x1e\x80\x1b\0\0\0\x04\0\0\0\xff\0\
-    \x1e\x80\x1c\0\0\0\x04\0\0\0\xff\0\x1e\x80\x1d\0\0\0\x04\0\0\0\xff\0\x1e\x80\x1e\0\0\0\x04\0\0\
-    \0\xff\0\x1e\x80\x1f\0\0\0\x04\0\0\0\xff\0\x1e\x80";

@@ -47,9 +47,11 @@ fn files_and_what_is_written_of_them(rt: HostRuntime) -> Result<(), Fail> {
     let longer = [ONE_SAMPLE, &[0]].concat(alloc)?;
     let long_names = changed(alloc, ONE_SAMPLE, 5, 4)?;
     let unknown_bit = changed(alloc, ONE_SAMPLE, 5, 1)?;
+    let run_lengths = changed(alloc, ONE_SAMPLE, 75, 1)?;
+    let float = changed(alloc, ONE_SAMPLE, 30, 2)?;
     let falling_line = changed(alloc, ONE_SAMPLE, 177, 1)?;
     // the file, the stop, what is written, what is printed
-    let rows: [(&[u8], Option<Stop>, Option<&[u8]>, &str); 15] = [
+    let rows: [(&[u8], Option<Stop>, Option<&[u8]>, &str); 14] = [
         (ONE_SAMPLE, None, Some(ONE_SAMPLE_RAW), "extract bytes 2\n"),
         (
             THREE_CHANNELS,
@@ -74,10 +76,9 @@ fn files_and_what_is_written_of_them(rt: HostRuntime) -> Result<(), Fail> {
             "extract bytes 2\n",
         ),
         (&longer, None, Some(ONE_SAMPLE_RAW), "extract bytes 2\n"),
-        (HALF_AND_FLOAT, Some(Stop::Form), None, ""),
-        (SAMPLED, Some(Stop::Form), None, ""),
+        (&float, Some(Stop::Form), None, ""),
+        (&run_lengths, Some(Stop::Form), None, ""),
         (DEEP, Some(Stop::Form), None, ""),
-        (RUN_LENGTHS, Some(Stop::Form), None, ""),
         (
             &unknown_bit,
             Some(head(HeaderFault::BadVersion { word: 0x102 })),

@@ -1,10 +1,8 @@
 -- A chunk is put byte by byte, and so are its samples.
-use Rattle.std.proofs.Common.{◌≡◌, ◌<◌, length, sym, ap, subst, ◌∙◌}
+use Rattle.std.proofs.Common.{ap, subst, ◌∙◌}
 use Rattle.exr_base.specs.Shape.{raw_size_of}
-use Rattle.exr_chunks.specs.Pixels.{IsInside}
 use Rattle.exr_reader.specs.Reading.{IsPatchOf}
-use Rattle.exr_reader.specs.Rows.{IsOn}
-use Rattle.exr_reader.proofs.Chunks.{IsLaid, on_planes, channels_plain, raw_is, planes_are, chunk_put}
+use Rattle.exr_reader.proofs.Chunks.{on_planes, channels_plain, raw_is, chunk_put}
 use Rattle.exr_reader.proofs.whole.put_chunk.Goals as goal
 
 pub put-requires-clause-on : goal.put-requires-clause-on

@@ -1,8 +1,6 @@
 -- One more chunk is put.
-use Rattle.std.proofs.Common.{◌≡◌, ◌≤◌, ◌<◌, IsTrue, Ok, sym, ap, subst, ◌∙◌, arith}
+use Rattle.std.proofs.Common.{Ok, sym, ap, subst, ◌∙◌, arith}
 use Rattle.exr_chunks.specs.Region.{header_at}
-use Rattle.exr_stream.specs.Chunk.{chunk_of}
-use Rattle.exr_stream.specs.Stream.{IsSameStream}
 use Rattle.exr_reader.specs.Reading.{IsChunkPut}
 use Rattle.exr_reader.proofs.Growing.{next_holds, next_data, none_holds, none_data, chunk_same, same_still, same_self}
 use Rattle.exr_reader.proofs.whole.read_into.Goals as goal

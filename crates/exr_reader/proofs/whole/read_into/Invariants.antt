@@ -1,4 +1,4 @@
-use Rattle.std.proofs.Common.{◌≡◌, ◌≤◌, IsTrue}
+use Rattle.std.proofs.Common.{◌≤◌, IsTrue}
 use Rattle.exr_stream.specs.Stream.{IsSameStream}
 use Rattle.exr_reader.specs.Reading.{HaveData, HoldsChunks}
 use Rattle.exr_reader.proofs.whole.read_into.Given as goal

@@ -1,5 +1,5 @@
 -- The first chunk is read before there is a buffer, and the others into it.
-use Rattle.std.proofs.Common.{rules, ◌≡◌, ◌≤◌, ◌<◌, IsTrue, length, Ok, sym, ap, subst, ◌∙◌, arith}
+use Rattle.std.proofs.Common.{rules, ◌≡◌, ◌<◌, length, sym, subst}
 use Rattle.exr_chunks.specs.Heads.{IsPicture, chunk_count_of}
 use Rattle.exr_chunks.specs.Region.{header_at}
 use Rattle.exr_reader.specs.Whole.{planes_size, ArePlanesOf}

@@ -1,5 +1,5 @@
 -- What was read stands at the front of the buffer.
-use Rattle.std.proofs.Common.{◌≡◌, length, take, ap, sym, ◌∙◌}
+use Rattle.std.proofs.Common.{length, ap, sym, ◌∙◌}
 use Rattle.exr_stream.proofs.Filled.{filled}
 use Rattle.exr_stream.proofs.fetch.fill.Goals as goal
 

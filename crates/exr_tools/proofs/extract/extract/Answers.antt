@@ -1,5 +1,5 @@
 -- What was extracted, and the line that was printed says its size.
-use Rattle.std.proofs.Common.{◌≡◌, ◌++◌, length, ap, ◌∙◌}
+use Rattle.std.proofs.Common.{◌++◌, ap, ◌∙◌}
 use Rattle.exr_tools.specs.Texts.{extract_line}
 use Rattle.exr_tools.proofs.Oks.{on_ok}
 use Rattle.exr_tools.proofs.extract.extract.Goals as goal

@@ -1,5 +1,5 @@
 -- The line has the number of the fault.
-use Rattle.std.proofs.Common.{◌≡◌, ◌++◌, ◌∷◌, [], ap, sym, ◌∙◌}
+use Rattle.std.proofs.Common.{◌++◌, ◌∷◌, [], ap, sym, ◌∙◌}
 use Rattle.std.specs.Prelude.{codes, decimal}
 use Rattle.exr_tools.specs.Texts.{file_line_of}
 use Rattle.exr_tools.proofs.stop.file_line.Goals as goal

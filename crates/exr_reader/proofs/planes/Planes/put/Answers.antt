@@ -1,5 +1,5 @@
 -- One more row is put; the rows before, and what lies outside of the patch, stand elsewhere.
-use Rattle.std.proofs.Common.{◌≡◌, ◌+◌, ◌*◌, ◌<◌, ◌≤◌, ℕ, length, slice_index, below_more, sym, ap, ◌∙◌, arith}
+use Rattle.std.proofs.Common.{◌≡◌, ◌+◌, ◌*◌, ◌<◌, slice_index, below_more, ap, ◌∙◌, arith}
 use Rattle.exr_reader.specs.Rows.{byte_place, raw_byte_place}
 use Rattle.exr_reader.proofs.Places.{beside_it, part_within, place_in_raw}
 use Rattle.exr_reader.proofs.planes.Planes.put.Goals as goal

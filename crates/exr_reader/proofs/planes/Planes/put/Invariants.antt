@@ -1,4 +1,4 @@
-use Rattle.std.proofs.Common.{◌≡◌, ◌+◌, ◌*◌, ◌<◌, ◌≤◌, ◌⊎◌, ℕ, slice_index}
+use Rattle.std.proofs.Common.{◌≡◌, ◌+◌, ◌<◌, ℕ, slice_index}
 use Rattle.exr_reader.specs.Rows.{byte_place, raw_byte_place, IsOutside}
 use Rattle.exr_reader.proofs.planes.Planes.put.Given as goal
 

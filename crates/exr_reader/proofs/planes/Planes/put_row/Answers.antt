@@ -1,5 +1,5 @@
 -- One more channel's part of the row is put; the parts of the channels before stand elsewhere.
-use Rattle.std.proofs.Common.{◌≡◌, ◌+◌, ◌*◌, ◌<◌, ◌≤◌, ◌⊎◌, ℕ, length, slice_index, below_more, sym, ap, ◌∙◌, arith}
+use Rattle.std.proofs.Common.{◌≡◌, ◌+◌, ◌*◌, ◌<◌, ◌≤◌, ◌⊎◌, ℕ, slice_index, below_more, ap, ◌∙◌, arith}
 use Rattle.exr_reader.specs.Rows.{byte_place}
 use Rattle.exr_reader.proofs.Places.{elsewhere, same_row, row_within, part_within}
 use Rattle.exr_reader.proofs.planes.Planes.put_row.Goals as goal

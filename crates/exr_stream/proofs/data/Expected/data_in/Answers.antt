@@ -2,7 +2,6 @@
 use Rattle.std.proofs.Common.{◌≡◌, ◌+◌, true, bytes_eq, take, drop, length, MatchResult, Ok, Err, sym, ap, subst, ◌∙◌, arith}
 use Rattle.std.proofs.lemmas.Bool.{not-false}
 use Rattle.std.proofs.lemmas.List.{take_rest}
-use Rattle.std.specs.Int.{w32, from_le_bytes}
 use Rattle.exr_stream.specs.Chunk.{sized_data, data_in}
 use Rattle.exr_stream.proofs.Whole.{named}
 use Rattle.exr_stream.proofs.data.Expected.data_in.Goals as goal

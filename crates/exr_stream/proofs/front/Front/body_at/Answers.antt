@@ -1,5 +1,5 @@
 -- What was read of the chunk is what the file has of it.
-use Rattle.std.proofs.Common.{◌≡◌, ◌+◌, ◌-◌, ℕ, List, IsTrue, min, length, take, drop, sym, ap, subst, ◌∙◌, arith}
+use Rattle.std.proofs.Common.{◌≡◌, ◌+◌, min, length, take, drop, ap, subst, ◌∙◌, arith}
 use Rattle.std.proofs.lemmas.List.{length-drop}
 use Rattle.exr_stream.specs.Chunk.{data_in}
 use Rattle.exr_stream.specs.Stream.{Fetches}

@@ -1,5 +1,5 @@
 -- The geometry knows the parts of the head.
-use Rattle.std.proofs.Common.{◌≡◌, ◌∙◌}
+use Rattle.std.proofs.Common.{◌∙◌}
 use Rattle.exr_stream.proofs.Bare.{chunks_by}
 use Rattle.exr_stream.proofs.front.Front.chunk_count.Goals as goal
 

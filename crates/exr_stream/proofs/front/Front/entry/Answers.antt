@@ -1,10 +1,9 @@
 -- The tables belong to the head, and the head to the file.
-use Rattle.std.proofs.Common.{◌≡◌, ◌<◌, ℕ, List, drop, length, sym, ap, subst, ◌∙◌}
+use Rattle.std.proofs.Common.{◌<◌, drop, length, ap, subst, ◌∙◌}
 use Rattle.std.proofs.lemmas.List.{take_rest}
 use Rattle.exr_stream.specs.Chunk.{entry_in}
-use Rattle.exr_stream.specs.Stream.{IsFrontOf}
 use Rattle.exr_stream.proofs.Bare.{within}
-use Rattle.exr_stream.proofs.Entries.{IsEntry, entry_is, entry_is_not}
+use Rattle.exr_stream.proofs.Entries.{entry_is, entry_is_not}
 use Rattle.exr_stream.proofs.front.Front.entry.Goals as goal
 
 pub entry_at-at-requires-clause-index : goal.entry_at-at-requires-clause-index

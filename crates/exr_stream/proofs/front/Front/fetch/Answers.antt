@@ -1,10 +1,10 @@
 -- The chunk stands where its entry says.
-use Rattle.std.proofs.Common.{◌≡◌, ℕ, List, IsTrue, IfOk, false, drop, length, Ok, Err, sym, ap, subst, ◌∙◌}
+use Rattle.std.proofs.Common.{◌≡◌, IsTrue, IfOk, drop, length, sym, ap, subst, ◌∙◌}
 use Rattle.exr_block.specs.Body.{data_of}
 use Rattle.exr_block.specs.Sizes.{is_size}
-use Rattle.exr_chunks.specs.Region.{header_at, chunk_bytes_of, place_of, region_of}
+use Rattle.exr_chunks.specs.Region.{header_at, chunk_bytes_of, place_of}
 use Rattle.exr_stream.specs.Fields.{chunk_fields}
-use Rattle.exr_stream.specs.Chunk.{entry_in, data_in, chunk_of}
+use Rattle.exr_stream.specs.Chunk.{data_in}
 use Rattle.exr_stream.specs.Stream.{Fetches}
 use Rattle.exr_stream.proofs.Whole.{chunk_at, chunk_not, flat_bytes}
 use Rattle.exr_stream.proofs.front.Front.fetch.Goals as goal

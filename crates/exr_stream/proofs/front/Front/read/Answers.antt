@@ -1,5 +1,5 @@
 -- The tables that the geometry counts are those of the head.
-use Rattle.std.proofs.Common.{◌≡◌, ◌*◌, ◌-◌, ℕ, length, take, drop, sum_by, map, sym, ap, ◌∙◌}
+use Rattle.std.proofs.Common.{◌≡◌, ◌*◌, length, take, drop, sum_by, sym, ap, ◌∙◌}
 use Rattle.exr_chunks.specs.Heads.{chunk_count_of}
 use Rattle.exr_chunks.proofs.Listed.{bare_counts}
 use Rattle.exr_stream.proofs.front.Front.read.Goals as goal
