@@ -1,7 +1,7 @@
 #!/usr/bin/env python3
-"""Measures `exr extract` on a plain file of 4096 by 2048 pixels with four HALF channels (64 MiB of samples), on a tmpfs,
-beside a C twin of the same reads, copies and writes (gcc -O2) and beside `cp`, in one run. Prints the table of
-docs/PERFORMANCE.md: the ratio of the least times, and the peak memory.
+"""Measures `exr extract` on a picture of 4096 by 2048 pixels with four HALF channels (64 MiB of samples), as scan lines and
+in tiles of 64 by 64, on a tmpfs, beside a C twin of the same reads, copies and writes (gcc -O2) and beside `cp`, in one run.
+Prints the table of docs/PERFORMANCE.md: the ratio of the least times, and the peak memory.
 
 Use: tools/extract_speed.py [ROUNDS], at the top of the repository, after `rt ci exr` has built the program.
 """
@@ -17,25 +17,35 @@ def attribute(name, kind, value):
     return name + b"\0" + kind + b"\0" + struct.pack("<i", len(value)) + value
 
 
-def head():
+def head(tile):
+    """The head of the picture; in tiles of a side, or in scan lines where that is 0."""
     listed = b"".join(n.encode() + b"\0" + struct.pack("<iIii", 1, 0, 1, 1) for n in NAMES) + b"\0"
     window = struct.pack("<4i", 0, 0, WIDTH - 1, HEIGHT - 1)
     one = struct.pack("<f", 1.0)
-    return (b"\x76\x2f\x31\x01\x02\0\0\0" + attribute(b"channels", b"chlist", listed)
+    tiles = attribute(b"tiles", b"tiledesc", struct.pack("<IIB", tile, tile, 0)) if tile else b""
+    return (b"\x76\x2f\x31\x01" + struct.pack("<I", 0x202 if tile else 2) + attribute(b"channels", b"chlist", listed)
             + attribute(b"compression", b"compression", b"\0") + attribute(b"dataWindow", b"box2i", window)
             + attribute(b"displayWindow", b"box2i", window) + attribute(b"lineOrder", b"lineOrder", b"\0")
             + attribute(b"pixelAspectRatio", b"float", one) + attribute(b"screenWindowCenter", b"v2f", bytes(8))
-            + attribute(b"screenWindowWidth", b"float", one) + b"\0")
+            + attribute(b"screenWindowWidth", b"float", one) + tiles + b"\0")
 
 
-def make(name):
-    front, line = head(), 2 * WIDTH * len(NAMES)
-    first = len(front) + 8 * HEIGHT
+def make(name, tile):
+    """Writes the picture, and answers how many bytes its head has. Sides are whole tiles."""
+    front = head(tile)
+    if tile:
+        fields = [struct.pack("<4i", x, y, 0, 0) for y in range(HEIGHT // tile) for x in range(WIDTH // tile)]
+        size = 2 * tile * tile * len(NAMES)
+    else:
+        fields = [struct.pack("<i", y) for y in range(HEIGHT)]
+        size = 2 * WIDTH * len(NAMES)
+    each = len(fields[0]) + 4 + size
+    first = len(front) + 8 * len(fields)
     with open(name, "wb") as file:
         file.write(front)
-        file.write(b"".join(struct.pack("<Q", first + y * (8 + line)) for y in range(HEIGHT)))
-        for y in range(HEIGHT):
-            file.write(struct.pack("<iI", y, line) + os.urandom(64) * (line // 64))
+        file.write(b"".join(struct.pack("<Q", first + i * each) for i in range(len(fields))))
+        for place in fields:
+            file.write(place + struct.pack("<I", size) + os.urandom(64) * (size // 64))
     return len(front)
 
 
@@ -49,14 +59,12 @@ def timed(words):
     return took, usage.ru_maxrss
 
 
-with tempfile.TemporaryDirectory(dir="/dev/shm") as folder:
+def measure(folder, twin, shape, tile):
     source, planes, twin_planes, copy = (os.path.join(folder, n) for n in ("in.exr", "out.raw", "twin.raw", "copy"))
-    twin = os.path.join(folder, "twin")
-    subprocess.run(["gcc", "-O2", "-o", twin, TWIN], check=True)
-    front = make(source)
+    front = make(source, tile)
     kinds = {
         "exr extract": [PROGRAM, "extract", "in=" + source, "out=" + planes],
-        "C twin": [twin, source, twin_planes, str(front), str(WIDTH), str(HEIGHT), str(len(NAMES))],
+        "C twin": [twin, source, twin_planes, str(front), str(WIDTH), str(HEIGHT), str(len(NAMES)), str(tile)],
         "cp": ["cp", source, copy],
     }
     least = {kind: (float("inf"), 0) for kind in kinds}
@@ -66,9 +74,14 @@ with tempfile.TemporaryDirectory(dir="/dev/shm") as folder:
             least[kind] = (min(least[kind][0], took), max(least[kind][1], peak))
     if open(planes, "rb").read() != open(twin_planes, "rb").read():
         sys.exit("the two buffers differ")
-    size = os.path.getsize(source)
-    print("| what | ratio to the C twin | ratio to `cp` | peak memory, MiB |")
-    print("|---|---|---|---|")
     for kind, (took, peak) in least.items():
-        print(f"| {kind} | {took / least['C twin'][0]:.2f} | {took / least['cp'][0]:.2f} | {peak / 1024:.1f} |")
-    print(f"\nThe file has {size / 2**20:.1f} MiB and the buffer {(size - front - 16 * HEIGHT) / 2**20:.1f} MiB.")
+        print(f"| {shape} | {kind} | {took / least['C twin'][0]:.2f} | {took / least['cp'][0]:.2f} | {peak / 1024:.1f} |")
+
+
+with tempfile.TemporaryDirectory(dir="/dev/shm") as folder:
+    twin = os.path.join(folder, "twin")
+    subprocess.run(["gcc", "-O2", "-o", twin, TWIN], check=True)
+    print("| file | what | ratio to the C twin | ratio to `cp` | peak memory, MiB |")
+    print("|---|---|---|---|---|")
+    measure(folder, twin, "scan lines", 0)
+    measure(folder, twin, "tiles of 64 by 64", 64)

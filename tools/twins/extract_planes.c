@@ -1,17 +1,29 @@
-/* The plain loop that `exr extract` is measured against: reads a plain file, lays its lines into planes, writes them.
-   Use: extract_planes IN OUT HEAD_BYTES WIDTH HEIGHT CHANNELS */
+/* The plain loop that `exr extract` is measured against: reads the head and the table, then each chunk in one read of its
+   fields and its data, lays its rows into planes, and writes them.
+   Use: extract_planes IN OUT HEAD_BYTES WIDTH HEIGHT CHANNELS TILE, where TILE is 0 for scan lines */
+#include <fcntl.h>
 #include <stdint.h>
-#include <stdio.h>
 #include <stdlib.h>
 #include <string.h>
-#include <sys/stat.h>
-#include <fcntl.h>
 #include <unistd.h>
 
-static int all(ssize_t (*call)(int, void *, size_t), int file, unsigned char *bytes, size_t count)
+static int read_all(int file, unsigned char *bytes, size_t count, off_t at)
 {
     while (count > 0) {
-        ssize_t n = call(file, bytes, count);
+        ssize_t n = pread(file, bytes, count, at);
+        if (n <= 0)
+            return 0;
+        bytes += n;
+        count -= (size_t)n;
+        at += n;
+    }
+    return 1;
+}
+
+static int write_all(int file, const unsigned char *bytes, size_t count)
+{
+    while (count > 0) {
+        ssize_t n = write(file, bytes, count);
         if (n <= 0)
             return 0;
         bytes += n;
@@ -20,35 +32,43 @@ static int all(ssize_t (*call)(int, void *, size_t), int file, unsigned char *by
     return 1;
 }
 
-static ssize_t write_some(int file, void *bytes, size_t count) { return write(file, bytes, count); }
+static size_t least(size_t a, size_t b) { return a < b ? a : b; }
 
 int main(int argc, char **argv)
 {
-    if (argc != 7)
+    if (argc != 8)
         return 2;
     size_t head = strtoul(argv[3], 0, 10), width = strtoul(argv[4], 0, 10), height = strtoul(argv[5], 0, 10),
-           channels = strtoul(argv[6], 0, 10);
+           channels = strtoul(argv[6], 0, 10), tile = strtoul(argv[7], 0, 10);
+    size_t columns = tile ? tile : width, rows = tile ? tile : 1, front = tile ? 20 : 8;
+    size_t across = (width + columns - 1) / columns, down = (height + rows - 1) / rows;
     int in = open(argv[1], O_RDONLY);
-    struct stat about;
-    if (in < 0 || fstat(in, &about) != 0)
+    uint64_t *table = malloc(8 * across * down);
+    unsigned char *first = malloc(head), *chunk = malloc(front + 2 * columns * rows * channels);
+    unsigned char *planes = calloc(channels * height, 2 * width);
+    if (in < 0 || !table || !first || !chunk || !planes || !read_all(in, first, head, 0)
+        || !read_all(in, (unsigned char *)table, 8 * across * down, (off_t)head))
         return 4;
-    unsigned char *file = malloc((size_t)about.st_size);
-    size_t row = 2 * width, line = row * channels;
-    unsigned char *planes = malloc(line * height);
-    if (!file || !planes || !all(read, in, file, (size_t)about.st_size))
-        return 4;
-    for (size_t y = 0; y < height; y++) {
-        uint64_t place = head + 8 * height + y * (8 + line), entry;
-        uint32_t fields[2];
-        memcpy(&entry, file + head + 8 * y, 8);
-        memcpy(fields, file + place, 8);
-        if (entry != place || fields[0] != y || fields[1] != line)
-            return 7;
-        for (size_t c = 0; c < channels; c++)
-            memcpy(planes + (c * height + y) * row, file + place + 8 + c * row, row);
+    for (size_t i = 0; i < across * down; i++) {
+        size_t tx = i % across, ty = i / across, x = tx * columns, y = ty * rows;
+        size_t w = least(columns, width - x), h = least(rows, height - y), row = 2 * w;
+        if (!read_all(in, chunk, front + h * channels * row, (off_t)table[i]))
+            return 3;
+        uint32_t fields[5] = {(uint32_t)y, (uint32_t)(h * channels * row)};
+        if (tile) {
+            fields[0] = (uint32_t)tx;
+            fields[1] = (uint32_t)ty;
+            fields[2] = fields[3] = 0;
+            fields[4] = (uint32_t)(h * channels * row);
+        }
+        if (memcmp(chunk, fields, front) != 0)
+            return 3;
+        for (size_t line = 0; line < h; line++)
+            for (size_t c = 0; c < channels; c++)
+                memcpy(planes + 2 * ((c * height + y + line) * width + x), chunk + front + (line * channels + c) * row, row);
     }
     int out = open(argv[2], O_WRONLY | O_CREAT | O_TRUNC, 0666);
-    if (out < 0 || !all(write_some, out, planes, line * height) || close(out) != 0)
+    if (out < 0 || !write_all(out, planes, 2 * channels * width * height) || close(out) != 0)
         return 5;
     return 0;
 }
