@@ -1,3 +1,5 @@
+//! A header judged from the attributes of a file: what it says, and what is missing.
+
 use super::*;
 use exr_attributes::{
     Attribute, AttributeMap, AttributeValue, Field, HeaderFault, PackedName, read_attributes,
@@ -34,7 +36,8 @@ fn ordered(alloc: Global, order: u8) -> Result<AttributeMap, Fail> {
 
 /// The part of some attributes, the first of its file.
 fn part(alloc: Global, kind: PartKind, map: AttributeMap) -> Result<Header, Refusal<HeaderFault>> {
-    judged(alloc, FLAT, [].as_slice(), 0, kind, map)
+    let earlier: Vec<Header> = Vec::new(alloc);
+    judged(alloc, FLAT, &earlier, 0, kind, map)
 }
 
 #[test]
