@@ -1,7 +1,7 @@
 #!/usr/bin/env python3
 """Measures `exr extract` on a picture of 4096 by 2048 pixels with four HALF channels (64 MiB of samples), as scan lines and
 in tiles of 64 by 64, on a tmpfs, beside a C twin of the same reads, copies and writes (gcc -O2) and beside `cp`, in one run.
-Prints the table of docs/PERFORMANCE.md: the ratio of the least times, and the peak memory.
+Prints the table of docs/PERFORMANCE.md: the ratio of the least times, and the peak memory of one more run.
 
 Use: tools/extract_speed.py [ROUNDS], at the top of the repository, after `rt ci exr` has built the program.
 """
@@ -11,6 +11,7 @@ ROUNDS = int(sys.argv[1]) if len(sys.argv) > 1 else 15
 WIDTH, HEIGHT, NAMES = 4096, 2048, ["A", "B", "G", "R"]
 PROGRAM = os.path.abspath("crates/exr/out/exr")
 TWIN = os.path.abspath("tools/twins/extract_planes.c")
+LAUNCHER = os.path.abspath("tools/twins/peak.c")
 
 
 def attribute(name, kind, value):
@@ -51,37 +52,41 @@ def make(name, tile):
 
 def timed(words):
     begin = time.perf_counter()
-    child = subprocess.Popen(words, stdout=subprocess.DEVNULL)
-    _, status, usage = os.wait4(child.pid, 0)
-    took = time.perf_counter() - begin
+    subprocess.run(words, check=True, stdout=subprocess.DEVNULL)
+    return time.perf_counter() - begin
+
+
+def peak_of(launcher, words):
+    status, peak = map(int, subprocess.run([launcher] + words, check=True, stdout=subprocess.PIPE).stdout.split())
     if status != 0:
         sys.exit(f"{words[0]} ended with status {status}")
-    return took, usage.ru_maxrss
+    return peak / 1024
 
 
-def measure(folder, twin, shape, tile):
+def measure(folder, twin, launcher, shape, tile):
     source, planes, twin_planes, copy = (os.path.join(folder, n) for n in ("in.exr", "out.raw", "twin.raw", "copy"))
     front = make(source, tile)
     kinds = {
         "exr extract": [PROGRAM, "extract", "in=" + source, "out=" + planes],
         "C twin": [twin, source, twin_planes, str(front), str(WIDTH), str(HEIGHT), str(len(NAMES)), str(tile)],
-        "cp": ["cp", source, copy],
+        "cp": ["/bin/cp", source, copy],
     }
-    least = {kind: (float("inf"), 0) for kind in kinds}
+    least = {kind: float("inf") for kind in kinds}
     for _ in range(ROUNDS):
         for kind, words in kinds.items():
-            took, peak = timed(words)
-            least[kind] = (min(least[kind][0], took), max(least[kind][1], peak))
+            least[kind] = min(least[kind], timed(words))
     if open(planes, "rb").read() != open(twin_planes, "rb").read():
         sys.exit("the two buffers differ")
-    for kind, (took, peak) in least.items():
-        print(f"| {shape} | {kind} | {took / least['C twin'][0]:.2f} | {took / least['cp'][0]:.2f} | {peak / 1024:.1f} |")
+    for kind, words in kinds.items():
+        ratios = [f"{least[kind] / least[other]:.2f}" for other in ("C twin", "cp")]
+        print(f"| {shape} | {kind} | {' | '.join(ratios)} | {peak_of(launcher, words):.1f} |")
 
 
 with tempfile.TemporaryDirectory(dir="/dev/shm") as folder:
-    twin = os.path.join(folder, "twin")
+    twin, launcher = os.path.join(folder, "twin"), os.path.join(folder, "peak")
     subprocess.run(["gcc", "-O2", "-o", twin, TWIN], check=True)
+    subprocess.run(["gcc", "-O2", "-o", launcher, LAUNCHER], check=True)
     print("| file | what | ratio to the C twin | ratio to `cp` | peak memory, MiB |")
     print("|---|---|---|---|---|")
-    measure(folder, twin, "scan lines", 0)
-    measure(folder, twin, "tiles of 64 by 64", 64)
+    measure(folder, twin, launcher, "scan lines", 0)
+    measure(folder, twin, launcher, "tiles of 64 by 64", 64)
