@@ -6,7 +6,7 @@ use Rattle.exr_base.specs.declared.channel.Kind.{Kind}
 use Rattle.exr_base.specs.declared.channel.Kind.TheVariants.{Uint, Half, Float}
 use Rattle.exr_base.specs.declared.channel.Channel.{Channel}
 use Rattle.exr_base.specs.Refusal.{◌>>=◌}
-use Rattle.exr_header.specs.declared.header.Header.{Header}
+use Rattle.exr_judge.specs.declared.header.Header.{Header}
 use Rattle.exr_frame.specs.declared.fault.MatchFault.{MatchFault}
 use Rattle.exr_frame.specs.declared.fault.MatchFault.TheVariants.{WindowOutside, KindDiffers, SamplingDiffers}
 use Rattle.exr_frame.specs.declared.plan.Plan.{Plan}

@@ -2,7 +2,7 @@
 
 ghost use Rattle.std.specs.Prelude.{◌≡◌, ◌≤◌, ◌<◌, ℕ, length, position, slice_index_or, Some, None, IfOk, IfSome};
 ghost use Rattle.exr_base.specs.Refusal.{Gives};
-ghost use Rattle.exr_header.specs.Picture.{IsPicture};
+ghost use Rattle.exr_judge.specs.Picture.{IsPicture};
 ghost use Rattle.exr_frame.specs.Inverse.{AreInverse};
 ghost use Rattle.exr_frame.specs.Place.{spots_of};
 ghost use Rattle.exr_frame.specs.Plan.{channel_at, same_kind, same_samplings, against, is_named, is_side_inside, is_inside, slice_matched, slices_matched, part_matched, IsPlanOf};
