@@ -78,7 +78,11 @@ pub fn run<R: Threads + Sync, W: World, F: Files<W>, O: Printer, G: Gate>(
 {
     match read_words(alloc, words)? {
         Order::Header { inputs } => header::<W, F, O>(alloc, files, out, inputs.first()),
-        Order::Extract { inputs, output } => {
+        Order::Extract {
+            inputs,
+            output,
+            part: _,
+        } => {
             extract::<W, F, O>(alloc, files, out, inputs.first(), output.as_str())
         }
     }

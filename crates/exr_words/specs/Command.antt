@@ -1,20 +1,25 @@
 -- What a command line can ask for.
-use Rattle.std.specs.Prelude.{ℕ, List, [], ◌∷◌, string_bytes}
+use Rattle.std.specs.Prelude.{ℕ, List, [], ◌∷◌, Option, Some, None, string_bytes}
 use Rattle.exr_words.specs.declared.order.Order.{Order}
 use Rattle.exr_words.specs.declared.order.Order.TheVariants as order
 
--- the text of a file's head; the samples of a file, written into another. Files are named by texts; the first list has
--- the inputs.
+-- the text of a file's head; the samples of a part of a file, written into another. Files are named by texts; the first
+-- list has the inputs. What was not given is left to the command.
 pub data Command : Type 0 where
   header : List (List ℕ) → Command
-  extract : List (List ℕ) → List ℕ → Command
+  extract : List (List ℕ) → List ℕ → Option ℕ → Command
 
 -- the first of some names
 abbrev pub first_of : List (List ℕ) → List ℕ
 first_of [] = []
 first_of (name ∷ names) = name
 
+-- names, of which there is one at least
+abbrev pub some_names : List (List ℕ) → Option (List (List ℕ))
+some_names [] = None
+some_names (name ∷ names) = Some (name ∷ names)
+
 -- what an order asks for
 abbrev pub command_in : Order → Command
 command_in (order.Header inputs) = header inputs
-command_in (order.Extract inputs output) = extract inputs (string_bytes output)
+command_in (order.Extract inputs output part) = extract inputs (string_bytes output) part

@@ -1,7 +1,11 @@
--- What contracts see of the values so far.
-use Rattle.std.specs.Option.{option_map}
-use Rattle.exr_words.specs.declared.words.Given.{Given as GivenTexts}
-use Rattle.exr_words.specs.Words.{Given}
+-- What contracts see of the fields.
+use Rattle.std.specs.Prelude.{map, string_bytes, option_map}
+use Rattle.exr_words.specs.declared.fields.Fields.{Fields as FieldsInCode}
+use Rattle.exr_words.specs.Fields.{Fields}
 
-abbrev pub given_in : GivenTexts → Given
-given_in g = record { input = option_map (λ x. x.now) g.input; output = option_map (λ x. x.now) g.output }
+abbrev pub fields_in : FieldsInCode → Fields
+fields_in f = record {
+  inputs = map string_bytes f.inputs.items;
+  output = option_map string_bytes f.output;
+  part = f.part;
+}

@@ -1,6 +1,9 @@
 //! The words of the command line: what they ask for, or the first that is not allowed.
 #![tactic(auto)]
 
+mod fields;
+mod names;
+mod number;
 mod order;
 mod words;
 

@@ -1,7 +1,7 @@
 //! What a command line asks for.
 
-ghost use Rattle.std.specs.Prelude.{◌≡◌, ◌≤◌, List, length, map, string_bytes};
-ghost use Rattle.exr_words.specs.Command.{first_of};
+ghost use Rattle.std.specs.Prelude.{◌≡◌, ◌≤◌, List, length, map, option_map, string_bytes};
+ghost use Rattle.exr_words.specs.Command.{first_of, some_names};
 
 use std::marker::Model;
 use thiserror::Error;
@@ -31,6 +31,16 @@ impl Model for Inputs {
 }
 
 impl Inputs {
+    /// Some names, or None where there are none.
+    pub(crate) fn new(names: Vec<String>) -> Option<Inputs>
+        ensures { result ≡ some_names (map string_bytes names.items) }
+    {
+        if names.is_empty() {
+            return None;
+        }
+        Some(Inputs { names })
+    }
+
     /// The first name.
     pub fn first(&self) -> &str
         ensures { result.now ≡ first_of self.now }
@@ -39,11 +49,18 @@ impl Inputs {
     }
 }
 
-/// What the words ask for.
+/// What the words ask for. The field of an optional key is None where the key was not given.
 #[derive(Drop, Debug)]
 pub enum Order {
     /// The text of a file's head.
-    Header { inputs: Inputs },
-    /// The samples of a file, written into another.
-    Extract { inputs: Inputs, output: String },
+    Header {
+        inputs: Inputs,
+    },
+    /// The samples of a file's part, written into another file.
+    Extract {
+        inputs: Inputs,
+        output: String,
+        /// The part's number, counted from 0.
+        part: Option<u32>,
+    },
 }

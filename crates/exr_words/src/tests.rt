@@ -16,8 +16,18 @@ fn answer_to(alloc: Global, words: &[&str]) -> Result<String, Fail> {
     }
     Ok(match read_words(alloc, &texts) {
         Ok(Order::Header { inputs }) => format!(in alloc; "header {}", inputs.first())?,
-        Ok(Order::Extract { inputs, output }) => {
-            format!(in alloc; "extract {} {}", inputs.first(), output.as_str())?
+        Ok(
+            Order::Extract {
+                inputs,
+                output,
+                part,
+            },
+        ) => {
+            let output = output.as_str();
+            match part {
+                None => format!(in alloc; "extract {} {output}", inputs.first())?,
+                Some(part) => format!(in alloc; "extract {} {output} {part}", inputs.first())?,
+            }
         }
         Err(Refusal::Fault(WordFault { position })) => format!(in alloc; "{position}")?,
         Err(Refusal::NoMemory) => return Err("memory".into()),
@@ -26,7 +36,7 @@ fn answer_to(alloc: Global, words: &[&str]) -> Result<String, Fail> {
 
 #[test]
 fn each_word_at_its_place(rt: HostRuntime) -> Result<(), Fail> {
-    let rows: [(&[&str], &str); 27] = [
+    let rows: [(&[&str], &str); 44] = [
         (&["header", "in=a"], "header a"),
         (&["header", "in=in=a"], "header in=a"),
         (&["header", "in= "], "header  "),
@@ -53,7 +63,39 @@ fn each_word_at_its_place(rt: HostRuntime) -> Result<(), Fail> {
         (&["extract", "in=a", "out="], "2"),
         (&["extract", "in=a", "in=a", "out=b"], "2"),
         (&["extract", "in=a", "out=b", "out=b"], "3"),
-        (&["extract", "in=a", "out=b", "part=0"], "3"),
+        (&["extract", "in=a", "out=b", "part=0"], "extract a b 0"),
+        (&["extract", "part=7", "in=a", "out=b"], "extract a b 7"),
+        (&["extract", "in=a", "part=007", "out=b"], "extract a b 7"),
+        (
+            &["extract", "in=a", "out=b", "part=4294967295"],
+            "extract a b 4294967295",
+        ),
+        (
+            &["extract", "in=a", "out=b", "part=00000000004294967295"],
+            "extract a b 4294967295",
+        ),
+        (
+            &["extract", "in=a", "out=b", "part=000000000004294967295"],
+            "3",
+        ),
+        (&["extract", "in=a", "out=b", "part=4294967296"], "3"),
+        (
+            &["extract", "in=a", "out=b", "part=18446744073709551616"],
+            "3",
+        ),
+        (
+            &["extract", "in=a", "out=b", "part=99999999999999999999"],
+            "3",
+        ),
+        (&["extract", "in=a", "out=b", "part=-0"], "3"),
+        (&["extract", "in=a", "out=b", "part=+1"], "3"),
+        (&["extract", "in=a", "out=b", "part= 1"], "3"),
+        (&["extract", "in=a", "out=b", "part=1/"], "3"),
+        (&["extract", "in=a", "out=b", "part=:"], "3"),
+        (&["extract", "in=a", "out=b", "part="], "3"),
+        (&["extract", "part=1", "part=1", "in=a", "out=b"], "2"),
+        (&["extract", "part=1", "in=a"], "3"),
+        (&["header", "in=a", "part=0"], "2"),
     ];
     for (words, answer) in rows {
         assert_eq!(rt; answer_to(rt.alloc(), words)?.as_str(), answer, "{words:?}");

@@ -1,77 +1,23 @@
 //! The words of a command, read from left to right: the command, and behind it its keys with their values (own).
 
-ghost use Rattle.std.specs.Prelude.{◌≡◌, ◌+◌, ◌^◌, ◌<◌, ◌∷◌, [], IfOk, length, string_bytes};
-ghost use Rattle.std.specs.Option.{option_map};
+ghost use Rattle.std.specs.Prelude.{◌≡◌, ◌+◌, ◌^◌, ◌<◌, IfOk, length, Some, None, option_map, if◌then◌else◌};
 ghost use Rattle.exr_base.specs.Refusal.{Gives};
 ghost use Rattle.exr_words.specs.Command.{command_in};
-ghost use Rattle.exr_words.specs.Words.{texts_of, verb_of, value_of, given_with, nothing, read_from, command_at, command_of};
-ghost use Rattle.exr_words.specs.Views.{given_in};
+ghost use Rattle.exr_words.specs.Fields.{nothing};
+ghost use Rattle.exr_words.specs.Words.{texts_of, fields_with, command_with, or_fault_at, read_from, command_of};
+ghost use Rattle.exr_words.specs.Views.{fields_in};
 
+use crate::fields::Fields;
+use crate::names::{Verb, key_of, takes, verb_of};
 use crate::order::{Inputs, Order, WordFault};
 use exr_base::{NoMemory, Refusal};
 use std::alloc::Global;
 
-/// The command that the first word names.
-#[derive(Clone, Copy)]
-enum Verb {
-    Header,
-    Extract,
-}
-
-/// The values of the keys so far.
-#[derive(Clone, Copy)]
-struct Given<'a> {
-    input: Option<&'a str>,
-    output: Option<&'a str>,
-}
-
-/// The command of a name.
-fn verb_of(word: &str) -> Option<Verb>
-    ensures { result ≡ verb_of word.now }
-{
-    if word == "header" {
-        return Some(Verb::Header);
-    }
-    (word == "extract").then_some(Verb::Extract)
-}
-
-/// What stands behind a key in a word that begins with it; a value is not empty.
-fn value<'a>(key: &str, word: &'a str) -> Option<&'a str>
-    ensures { option_map (λ x. x.now) result ≡ value_of key.now word.now }
-{
-    match word.strip_prefix(key) {
-        None => None,
-        Some(value) => (!value.is_empty()).then_some(value),
-    }
-}
-
-/// The values after one more word, where the word is allowed: its key is one of the command's and was not given before.
-fn with<'a>(verb: Verb, given: Given<'a>, word: &'a str) -> Option<Given<'a>>
-    ensures { option_map given_in result ≡ given_with verb (given_in given.entry) word.now }
-{
-    if let Some(input) = value("in=", word) {
-        return match given.input {
-            None => Some(Given {
-                input: Some(input),
-                output: given.output,
-            }),
-            Some(_) => None,
-        };
-    }
-    let output = value("out=", word)?;
-    match (verb, given.output) {
-        (Verb::Extract, None) => Some(Given {
-            input: given.input,
-            output: Some(output),
-        }),
-        _ => None,
-    }
-}
-
 /// What the words ask for, or the position of the first that is not allowed.
 ///
-/// `header in=NAME`, or `extract in=NAME out=NAME` with the two in either order. Every key stands once, and no value
-/// is empty.
+/// `header in=NAME`, or `extract in=NAME out=NAME part=NUMBER`, where the number may be left out. Behind the command the
+/// keys stand in any order, each once at the most, and no value is empty. A number has 1 to 20 digits; that of a part is
+/// below 2^32.
 pub fn read_words(alloc: Global, words: &[String]) -> Result<Order, Refusal<WordFault>>
     requires { length words.now < 2 ^ 32 }
     ensures { Gives command_in result (command_of (texts_of words.now)) }
@@ -90,55 +36,69 @@ fn read_keys(alloc: Global, verb: Verb, keys: &[String]) -> Result<Order, Refusa
     requires { length keys.now + 1 < 2 ^ 32 }
     ensures { Gives command_in result (read_from verb 1 nothing (texts_of keys.now)) }
 {
-    let mut given = Given {
-        input: None,
-        output: None,
-    };
+    let mut fields = Fields::new(alloc);
     let mut position = 1;
     for word in keys {
-        match with(verb, given, word.as_str()) {
-            Some(more) => given = more,
-            None => return Err(Refusal::Fault(WordFault { position })),
-        }
+        read_word(alloc, verb, &mut fields, word.as_str(), position)?;
         position += 1;
     }
-    ordered(alloc, verb, given, position)
+    finished(verb, fields, position)
 }
 
-/// What the command asks for with these values; where one is missing the fault is at a position behind the last word.
-fn ordered(
+/// Puts the value of the word at a position into its field.
+fn read_word(
     alloc: Global,
     verb: Verb,
-    given: Given<'_>,
+    fields: &mut Fields,
+    word: &str,
     position: u32,
-) -> Result<Order, Refusal<WordFault>>
-    ensures { Gives command_in result (command_at verb position (given_in given.entry)) }
+) -> Result<(), Refusal<WordFault>>
+    ensures { Gives (λ _. fields_in fields.new) result
+        (or_fault_at position (fields_with verb (fields_in fields.old) word.now)) }
 {
-    let missing = Refusal::Fault(WordFault { position });
-    let Some(input) = given.input else {
-        return Err(missing);
-    };
-    match verb {
-        Verb::Header => {
-            let inputs = one(alloc, input)?;
-            Ok(Order::Header { inputs })
-        }
-        Verb::Extract => {
-            let Some(output) = given.output else {
-                return Err(missing);
-            };
-            let inputs = one(alloc, input)?;
-            let output = String::from_str(alloc, output)?;
-            Ok(Order::Extract { inputs, output })
-        }
+    if read(alloc, verb, fields, word)? {
+        Ok(())
+    } else {
+        Err(Refusal::Fault(WordFault { position }))
     }
 }
 
-/// One input.
-fn one(alloc: Global, name: &str) -> Result<Inputs, NoMemory>
-    ensures { IfOk result (λ inputs. inputs ≡ name.now ∷ []) }
+/// Puts a word's value into its field. False where the word is not allowed.
+fn read(alloc: Global, verb: Verb, fields: &mut Fields, word: &str) -> Result<bool, NoMemory>
+    ensures { IfOk result (λ done. fields_with verb (fields_in fields.old) word.now
+        ≡ (if done then Some (fields_in fields.new) else None)) }
 {
-    let mut names = Vec::new(alloc);
-    names.push(String::from_str(alloc, name)?)?;
-    Ok(Inputs { names })
+    let Some((name, value)) = word.split_once('=') else {
+        return Ok(false);
+    };
+    let Some(key) = key_of(name) else {
+        return Ok(false);
+    };
+    if !takes(verb, key) || value.is_empty() {
+        return Ok(false);
+    }
+    fields.put(alloc, key, value)
+}
+
+/// What the command asks for with all its words; where a needed key is missing the fault is at the position behind the
+/// last.
+fn finished(verb: Verb, fields: Fields, position: u32) -> Result<Order, Refusal<WordFault>>
+    ensures { Gives command_in result (or_fault_at position (command_with verb (fields_in fields))) }
+{
+    order(verb, fields).ok_or(Refusal::Fault(WordFault { position }))
+}
+
+/// What the command asks for with its fields, where it has all that it needs.
+fn order(verb: Verb, fields: Fields) -> Option<Order>
+    ensures { option_map command_in result ≡ command_with verb (fields_in fields) }
+{
+    let inputs = Inputs::new(fields.inputs)?;
+    Some(match verb {
+        Verb::Header => Order::Header { inputs },
+        Verb::Extract => Order::Extract {
+            inputs,
+            output: fields.output?,
+            part: fields.part,
+        },
+    })
 }

@@ -1,11 +1,12 @@
-use Rattle.std.proofs.Common.{◌≡◌, ◌+◌, drop}
-use Rattle.exr_words.specs.Words.{read_from, nothing, texts_of}
-use Rattle.exr_words.specs.Views.{given_in}
+use Rattle.std.proofs.Common.{◌≡◌, ◌+◌}
+use Rattle.exr_words.specs.Fields.{nothing}
+use Rattle.exr_words.specs.Views.{fields_in}
+use Rattle.exr_words.proofs.Reading.{rest}
 use Rattle.exr_words.proofs.words.read_keys.Given as goal
 
 -- reading on from here is reading all keys
 abbrev pub invariant-loop-word : goal.invariant-loop-word
 invariant-loop-word l = record {
-  so_far : read_from l.verb l.position (given_in l.given) (texts_of (drop l.word-index l.keys)) ≡ read_from l.verb 1 nothing (texts_of l.keys);
+  so_far : rest l.verb l.position (fields_in l.fields) l.keys l.word-index ≡ rest l.verb 1 nothing l.keys 0;
   counts : l.position ≡ l.word-index + 1;
 }

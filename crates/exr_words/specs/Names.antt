@@ -1,0 +1,25 @@
+-- The commands and the keys by their names, and which command takes which key.
+use Rattle.std.specs.Prelude.{ℕ, Bool, true, false, bytes_eq, List, codes, Option, Some, None, if◌then◌else◌}
+use Rattle.exr_words.specs.declared.names.Verb.{Verb}
+use Rattle.exr_words.specs.declared.names.Verb.TheVariants.{Header, Extract}
+use Rattle.exr_words.specs.declared.names.Key.{Key}
+use Rattle.exr_words.specs.declared.names.Key.TheVariants.{In, Out, Part}
+
+-- the command of a name
+abbrev pub verb_of : List ℕ → Option Verb
+verb_of name =
+    if bytes_eq name (codes "header") then Some Header else (
+    if bytes_eq name (codes "extract") then Some Extract else None)
+
+-- the key of a name
+abbrev pub key_of : List ℕ → Option Key
+key_of name =
+    if bytes_eq name (codes "in") then Some In else (
+    if bytes_eq name (codes "out") then Some Out else (
+    if bytes_eq name (codes "part") then Some Part else None))
+
+-- the keys of each command
+abbrev pub takes : Verb → Key → Bool
+takes Header In = true
+takes Header key = false
+takes Extract key = true
