@@ -44,7 +44,7 @@ pub record Writes (file output : List ℕ) (files_tell out_tells : Type 0) (kept
 
 abbrev pub Does : Command → (List ℕ → List ℕ) → Type 0 → Type 0 → Type 0 → List (List ℕ × List ℕ) → List (List ℕ × List ℕ) → List ℕ → List ℕ → Type 0
 Does (header inputs) bytes_of files_tell sinks_tell out_tells = Shows (bytes_of (first_of inputs)) files_tell out_tells
-Does (extract inputs output part) bytes_of files_tell sinks_tell out_tells = Writes (bytes_of (first_of inputs)) output (files_tell × sinks_tell) out_tells
+Does (extract inputs output choices) bytes_of files_tell sinks_tell out_tells = Writes (bytes_of (first_of inputs)) output (files_tell × sinks_tell) out_tells
 
 -- the words have a command, and it was done
 pub record Obeys (bytes_of : List ℕ → List ℕ) (source_tells files_tell sinks_tell out_tells : Type 0) (words : List (List ℕ)) (kept kept_after : List (List ℕ × List ℕ)) (out out_after : List ℕ) : Type 0 where
@@ -71,7 +71,7 @@ IsFaultyOrOther stop file = IsFaulty stop file
 -- the stop that the input of a command calls for
 abbrev pub IsDue : Command → (List ℕ → List ℕ) → Stop → Type 0
 IsDue (header inputs) bytes_of stop = IsFaulty stop (bytes_of (first_of inputs))
-IsDue (extract inputs output part) bytes_of stop = IsFaultyOrOther stop (bytes_of (first_of inputs))
+IsDue (extract inputs output choices) bytes_of stop = IsFaultyOrOther stop (bytes_of (first_of inputs))
 
 -- the stop is that of a form
 abbrev pub IsForm : Stop → Type 0
@@ -81,7 +81,7 @@ IsForm stop = ⊥
 -- the input calls for no stop
 abbrev pub IsSound : Command → (List ℕ → List ℕ) → Type 0
 IsSound (header inputs) bytes_of = (text : List ℕ) × IsTextOf (bytes_of (first_of inputs)) text
-IsSound (extract inputs output part) bytes_of = (h : Plain) × IsPlainFile (bytes_of (first_of inputs)) h
+IsSound (extract inputs output choices) bytes_of = (h : Plain) × IsPlainFile (bytes_of (first_of inputs)) h
 
 -- the fact that goes with each stop; want of memory needs none
 abbrev pub HasReason : Stop → (ℕ → Type 0) → (Stop → Type 0) → Type 0 → Type 0 → Type 0
@@ -119,17 +119,17 @@ ByCommand words fact other = MatchResult (command_of words) fact (λ _. other)
 -- the names of inputs that a command opens
 abbrev pub Opens : Command → List (List ℕ) → List (List ℕ) → Type 0
 Opens (header inputs) old new = AsksAtMost old new (first_of inputs)
-Opens (extract inputs output part) old new = AsksAtMost old new (first_of inputs)
+Opens (extract inputs output choices) old new = AsksAtMost old new (first_of inputs)
 
 -- the names that a command creates
 abbrev pub Creates : Command → List (List ℕ) → List (List ℕ) → Type 0
 Creates (header inputs) old new = new ≡ old
-Creates (extract inputs output part) old new = AsksAtMost old new output
+Creates (extract inputs output choices) old new = AsksAtMost old new output
 
 -- the pairs that a command keeps
 abbrev pub Keeps : Command → List (List ℕ × List ℕ) → List (List ℕ × List ℕ) → Type 0
 Keeps (header inputs) old new = new ≡ old
-Keeps (extract inputs output part) old new = KeepsAtMost old new output
+Keeps (extract inputs output choices) old new = KeepsAtMost old new output
 
 -- the stops that come before a file is created
 abbrev pub IsBeforeWriting : Stop → Type 0

@@ -78,11 +78,7 @@ pub fn run<R: Threads + Sync, W: World, F: Files<W>, O: Printer, G: Gate>(
 {
     match read_words(alloc, words)? {
         Order::Header { inputs } => header::<W, F, O>(alloc, files, out, inputs.first()),
-        Order::Extract {
-            inputs,
-            output,
-            part: _,
-        } => {
+        Order::Extract { inputs, output, .. } => {
             extract::<W, F, O>(alloc, files, out, inputs.first(), output.as_str())
         }
     }
