@@ -8,3 +8,4 @@ pub mod Channels
 pub mod Fields
 pub mod Words
 pub mod Views
+pub mod Limits

@@ -4,6 +4,7 @@ ghost use Rattle.std.specs.Prelude.{◌≡◌, ◌+◌, ◌^◌, ◌<◌, IfOk, 
 ghost use Rattle.exr_base.specs.Refusal.{Gives};
 ghost use Rattle.exr_words.specs.Command.{command_in};
 ghost use Rattle.exr_words.specs.Fields.{nothing};
+ghost use Rattle.exr_words.specs.Limits.{IsWithin};
 ghost use Rattle.exr_words.specs.Words.{texts_of, fields_with, command_with, or_fault_at, read_from, command_of};
 ghost use Rattle.exr_words.specs.Views.{fields_in};
 
@@ -23,7 +24,8 @@ use std::alloc::Global;
 /// none of them a comma, a colon or zero.
 pub fn read_words(alloc: Global, words: &[String]) -> Result<Order, Refusal<WordFault>>
     requires { length words.now < 2 ^ 32 }
-    ensures { Gives command_in result (command_of (texts_of words.now)) }
+    ensures exact { Gives command_in result (command_of (texts_of words.now)) }
+    ensures within { IfOk result (λ order. IsWithin (command_in order)) }
 {
     let Some((command, keys)) = words.split_first() else {
         return Err(Refusal::Fault(WordFault { position: 0 }));
