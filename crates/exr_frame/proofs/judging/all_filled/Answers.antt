@@ -1,0 +1,13 @@
+use Rattle.std.proofs.Common.{arith, ◌∙◌, sym}
+use Rattle.exr_frame.proofs.Counted.{few_before, few_planes}
+use Rattle.exr_frame.proofs.judging.all_filled.Goals as goal
+
+pub overflow_cast-result : goal.overflow_cast-result
+overflow_cast-result c =
+    let few = few_before c.args.planes.now c.in-Some.plane (sym c.first_empty.ensures ∙ c.in-Some.is) in
+    search arith
+
+pub returns-in-None-clause-few : goal.returns-in-None-clause-few
+returns-in-None-clause-few c =
+    let few = few_planes c.args.planes.now (sym c.first_empty.ensures ∙ c.in-None.is) in
+    omega arith

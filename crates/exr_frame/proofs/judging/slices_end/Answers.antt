@@ -1,0 +1,14 @@
+use Rattle.std.proofs.Common.{arith}
+use Rattle.exr_frame.proofs.Rests.{slices_err, slices_ok, slices_all}
+use Rattle.exr_frame.proofs.judging.slices_end.Goals as goal
+
+pub returns-then-slice-ended-clause-exact : goal.returns-then-slice-ended-clause-exact
+returns-then-slice-ended-clause-exact c =
+    slices_err c.args.first c.loop-slice.number c.loop-slice.ended c.loop-slice.slice-index c.args.slices.now c.slice-item.result c.loop-slice-test.true c.slice-item.is c.if-slice-ended.true c.loop-slice.invariant.rest
+
+pub loop-slice-preserved : goal.loop-slice-preserved
+loop-slice-preserved c = ?
+
+pub returns-clause-exact : goal.returns-clause-exact
+returns-clause-exact c =
+    slices_all c.args.first c.loop-slice.number c.loop-slice.ended c.loop-slice.slice-index c.args.slices.now c.loop-slice-test.false c.loop-slice.invariant.rest

@@ -1,0 +1,4 @@
+pub mod Fault
+pub mod Judging
+pub mod Near
+pub mod Place

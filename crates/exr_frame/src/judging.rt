@@ -1,0 +1,264 @@
+//! The tests that planes have to pass, in their order. What a test lets through is where what it tests ends.
+
+ghost use Rattle.std.specs.Prelude.{◌≡◌, ◌≤◌, ◌<◌, ◌+◌, ◌^◌, ℕ, All, false, length, take, position, slice_get, IfOk, OnOk};
+ghost use Rattle.std.specs.List.{list_any};
+ghost use Rattle.std.specs.Option.{option_copied};
+ghost use Rattle.exr_base.specs.Shape.{IsRegion};
+ghost use Rattle.exr_base.specs.Sampling.{sample_count_of};
+ghost use Rattle.exr_frame.specs.Judging.{is_empty_run, is_empty_plane, is_huge, is_huge_slice, is_huge_run, is_huge_plane, has_name, refused_at, slices_of, slices_of_runs, slices_of_plane, names_judged, slices_judged, run_judged, runs_judged, samplings_judged, plane_judged, planes_judged, frame_judged, frame_from, IsFrame, end_of};
+ghost use Rattle.exr_frame.specs.Near.{IsNearSlice, IsNearRun, IsNearPlane, IsSampledRun};
+
+use crate::fault::LayoutFault;
+use crate::planes::{Plane, Run, Slice};
+use exr_base::{Box2i, Name, sample_count};
+
+// ---- over all planes
+
+fn is_empty_run(run: &Run) -> bool
+    ensures { result ≡ is_empty_run run.now }
+{
+    run.slices.is_empty()
+}
+
+fn has_empty_run(runs: &[Run]) -> bool
+    ensures { result ≡ list_any is_empty_run runs.now }
+{
+    runs.iter().any(|run| is_empty_run(run))
+}
+
+fn is_empty_plane(plane: &Plane) -> bool
+    ensures { result ≡ is_empty_plane plane.now }
+{
+    plane.runs.is_empty() || has_empty_run(plane.runs.as_slice())
+}
+
+fn first_empty(planes: &[Plane]) -> Option<usize>
+    ensures { result ≡ position is_empty_plane planes.now }
+{
+    planes.iter().position(|plane| is_empty_plane(plane))
+}
+
+/// Each plane has runs, and each run has slices.
+fn all_filled(planes: &[Plane]) -> Result<u64, LayoutFault>
+    requires { length (slices_of planes.now) ≤ 1024 }
+    ensures exact { result ≡ refused_at (λ p. LayoutFault.Empty p) (position is_empty_plane planes.now) }
+    ensures few { OnOk result (length planes.now ≤ 1024) }
+{
+    match first_empty(planes) {
+        None => Ok(0),
+        Some(plane) => Err(LayoutFault::Empty {
+            plane: plane as u32,
+        }),
+    }
+}
+
+fn is_huge(number: u64) -> bool
+    ensures { result ≡ is_huge number }
+{
+    number > 1 << 40
+}
+
+fn has_huge_slice(slices: &[Slice]) -> bool
+    ensures { result ≡ list_any is_huge_slice slices.now }
+{
+    slices.iter().any(|slice| is_huge(slice.at))
+}
+
+fn is_huge_run(run: &Run) -> bool
+    ensures { result ≡ is_huge_run run.now }
+{
+    is_huge(run.at) || is_huge(run.stride) || has_huge_slice(run.slices.as_slice())
+}
+
+fn has_huge_run(runs: &[Run]) -> bool
+    ensures { result ≡ list_any is_huge_run runs.now }
+{
+    runs.iter().any(|run| is_huge_run(run))
+}
+
+fn is_huge_plane(plane: &Plane) -> bool
+    ensures { result ≡ is_huge_plane plane.now }
+{
+    is_huge(plane.base) || is_huge(plane.stride) || has_huge_run(plane.runs.as_slice())
+}
+
+fn first_huge(planes: &[Plane]) -> Option<usize>
+    ensures { result ≡ position is_huge_plane planes.now }
+{
+    planes.iter().position(|plane| is_huge_plane(plane))
+}
+
+/// No base, offset or stride is above 2^40.
+fn all_near(planes: &[Plane]) -> Result<u64, LayoutFault>
+    requires { length planes.now ≤ 1024 }
+    ensures exact { result ≡ refused_at (λ p. LayoutFault.Huge p) (position is_huge_plane planes.now) }
+    ensures near { OnOk result (All IsNearPlane planes.now) }
+{
+    match first_huge(planes) {
+        None => Ok(0),
+        Some(plane) => Err(LayoutFault::Huge {
+            plane: plane as u32,
+        }),
+    }
+}
+
+// ---- names
+
+/// How many slices runs have.
+fn slice_count(runs: &[Run]) -> usize
+    requires { length (slices_of_runs runs.now) ≤ 1024 }
+    ensures { result ≡ length (slices_of_runs runs.now) }
+{
+    let mut count = 0;
+    for run in runs {
+        count += run.slices.len();
+    }
+    count
+}
+
+/// The slice of a number among those of runs.
+fn slice_in_runs(runs: &[Run], number: usize) -> Option<&Slice>
+    ensures { option_copied result ≡ slice_get (slices_of_runs runs.now) number }
+{
+    runs.iter()
+        .flat_map(|run| run.slices.iter())
+        .nth(number)
+}
+
+/// The number of the first slice of runs with a name.
+fn named_in_runs(runs: &[Run], name: &Name) -> Option<usize>
+    ensures { result ≡ position (has_name name.now) (slices_of_runs runs.now) }
+{
+    runs.iter()
+        .flat_map(|run| run.slices.iter())
+        .position(|slice| slice.channel == *name)
+}
+
+// ---- slice by slice, run by run, plane by plane
+
+/// Where what begins at a place, and has as many pieces that lie one stride apart, ends.
+fn end_of(at: u64, stride: u64, pieces: u32, each: u64) -> u64
+    requires at { at ≤ 2 ^ 40 }
+    requires stride { stride ≤ 2 ^ 40 }
+    requires pieces { pieces ≤ 2 ^ 20 }
+    requires each { each ≤ 2 ^ 62 }
+    ensures exact { result ≡ end_of at stride pieces each }
+    ensures small { result ≤ each + 2 ^ 61 }
+{
+    if pieces == 0 {
+        at
+    } else {
+        at + u64::from(pieces - 1) * stride + each
+    }
+}
+
+/// Each slice of a run begins where the one before has ended, or behind it.
+fn slices_end(slices: &[Slice], first: u32) -> Result<u64, LayoutFault>
+    requires near { All IsNearSlice slices.now }
+    requires few { first + length slices.now ≤ 1024 }
+    ensures exact { result ≡ slices_judged first 0 slices.now }
+    ensures small { IfOk result (λ end. end ≤ 2 ^ 41) }
+{
+    let mut number = first;
+    let mut ended = 0;
+    for slice in slices {
+        if slice.at < ended {
+            return Err(LayoutFault::Overlap {
+                first: number - 1,
+                second: number,
+            });
+        }
+        ended = slice.at + slice.kind.bytes() as u64;
+        number += 1;
+    }
+    Ok(ended)
+}
+
+/// A run lies behind what has ended before it, and its slices within its stride.
+#[tactic(auto, unfolding(crate::specs::Judging::run_judged))]
+fn run_end(run: &Run, window: Box2i, first: u32, ended: u64) -> Result<u64, LayoutFault>
+    requires near { IsNearRun run.now }
+    requires sampled { IsSampledRun run.now }
+    requires region { IsRegion window }
+    requires few { first + length run.now.slices.items ≤ 1024 }
+    requires some { 0 < length run.now.slices.items }
+    requires begun { first ≡ 0 → ended ≡ 0 }
+    ensures exact { result ≡ run_judged window first ended run.now }
+    ensures small { IfOk result (λ end. end ≤ 2 ^ 62) }
+{
+    let each = slices_end(run.slices.as_slice(), first)?;
+    if run.stride < each {
+        return Err(LayoutFault::ShortStride {
+            slice: first + run.slices.len() as u32 - 1,
+        });
+    }
+    if run.at < ended {
+        return Err(LayoutFault::Overlap {
+            first: first - 1,
+            second: first,
+        });
+    }
+    let columns = columns_of(window, run.sampling);
+    Ok(end_of(run.at, run.stride, columns, each))
+}
+
+fn columns_of(window: Box2i, sampling: u32) -> u32
+    requires region { IsRegion window }
+    requires sampled { 1 ≤ sampling }
+    ensures exact { result ≡ sample_count_of sampling window.x0 window.x1 }
+    ensures small { result ≤ 2 ^ 20 }
+{
+    sample_count(sampling, window.x0, window.x1)
+}
+
+fn rows_of(window: Box2i, sampling: u32) -> u32
+    requires region { IsRegion window }
+    requires sampled { 1 ≤ sampling }
+    ensures exact { result ≡ sample_count_of sampling window.y0 window.y1 }
+    ensures small { result ≤ 2 ^ 20 }
+{
+    sample_count(sampling, window.y0, window.y1)
+}
+
+/// Each run has a sampling.
+fn all_sampled(runs: &[Run], first: u32) -> Result<u64, LayoutFault>
+    requires { first + length (slices_of_runs runs.now) ≤ 1024 }
+    ensures exact { result ≡ samplings_judged first runs.now }
+    ensures sampled { OnOk result (All IsSampledRun runs.now) }
+{
+    let mut number = first;
+    for run in runs {
+        if run.sampling == 0 {
+            return Err(LayoutFault::ZeroSampling { slice: number });
+        }
+        number += run.slices.len() as u32;
+    }
+    Ok(0)
+}
+
+/// Each run of a plane begins where the one before has ended, or behind it.
+fn runs_end(runs: &[Run], window: Box2i, first: u32) -> Result<u64, LayoutFault>
+    requires near { All IsNearRun runs.now }
+    requires filled { list_any is_empty_run runs.now ≡ false }
+    requires sampled { All IsSampledRun runs.now }
+    requires region { IsRegion window }
+    requires few { first + length (slices_of_runs runs.now) ≤ 1024 }
+    ensures exact { result ≡ runs_judged window first 0 runs.now }
+    ensures small { IfOk result (λ end. end ≤ 2 ^ 62) }
+{
+    let mut number = first;
+    let mut ended = 0;
+    for run in runs {
+        ended = run_end(run, window, number, ended)?;
+        number += run.slices.len() as u32;
+    }
+    Ok(ended)
+}
+
+/// The tests, in their order.
+pub(crate) fn planes_fit(planes: &[Plane], window: Box2i, buffer: u64) -> Result<u64, LayoutFault>
+    requires { IsFrame (frame_from planes.now window buffer) }
+    ensures { result ≡ frame_judged (frame_from planes.now window buffer) }
+{
+    Ok(0)
+}
