@@ -7,7 +7,12 @@ use Rattle.std.proofs.lemmas.List.Concat.{flat_map-append}
 use Rattle.std.proofs.lemmas.List.Folds.{list_any_at, length-flat_map-take}
 use Rattle.std.proofs.lemmas.List.Sums.{fails_before_first}
 use Rattle.std.proofs.lemmas.List.Quantifiers.{position-Some}
+use Rattle.std.proofs.lemmas.Bool.Decides.{nat_tests}
+use Rattle.std.proofs.lemmas.List.Elements.{All-more}
 use Rattle.std.proofs.lemmas.Nat.{mul-le}
+use Rattle.exr_base.specs.declared.channel.Kind.{Kind}
+use Rattle.exr_base.specs.declared.channel.Kind.TheVariants.{Uint, Half, Float}
+use Rattle.exr_base.specs.Channel.{bytes_of}
 use Rattle.exr_base.specs.Sampling.{sample_count_of, span_of}
 use Rattle.exr_base.specs.Shape.{IsSide}
 use Rattle.exr_base.proofs.Multiples.{multiples_le}
@@ -15,7 +20,7 @@ use Rattle.exr_frame.specs.declared.planes.Slice.{Slice}
 use Rattle.exr_frame.specs.declared.planes.Run.{Run}
 use Rattle.exr_frame.specs.declared.planes.Plane.{Plane}
 use Rattle.exr_frame.specs.Judging.{is_empty_run, is_empty_plane, is_huge, is_huge_slice, is_huge_run, is_huge_plane, slices_of_runs, slices_of_plane, slices_of}
-use Rattle.exr_frame.specs.Near.{IsNearSlice, IsNearRun, IsNearPlane}
+use Rattle.exr_frame.specs.Near.{IsNearSlice, IsNearRun, IsNearPlane, IsSampledRun}
 
 -- a run more
 pub runs_more : (runs : List Run) (i : ℕ) (r : Run) → i < length runs → r ≡ get_or runs i r → length (slices_of_runs (take (i + 1) runs)) ≡ length (slices_of_runs (take i runs)) + length r.slices.items
@@ -180,5 +185,35 @@ near_planes planes h k d lt = near_plane (get_or planes k d) (none_at is_huge_pl
 pub count_few : (sampling : ℕ) (from to : ℤ) → IsSide from to → sample_count_of sampling from to ≤ 2 ^ 20
 count_few sampling from to side = let m = multiples_le sampling from (span_of from to) in let f = side.few in omega arith
 
+pub count_small : (sampling : ℕ) (from to : ℤ) (n : ℕ) → IsSide from to → n ≡ sample_count_of sampling from to → n ≤ 2 ^ 20
+count_small sampling from to n side e = let few = count_few sampling from to side in omega arith
+
+bytes_few : (kind : Kind) → bytes_of kind ≤ 4
+bytes_few Uint = omega arith
+bytes_few Half = omega arith
+bytes_few Float = omega arith
+
+pub slice_small : (xs : List Slice) (i : ℕ) (s : Slice) (n : ℕ) → All IsNearSlice xs → i < length xs → s ≡ get_or xs i s → n ≡ bytes_of s.kind → s.at + n ≤ 2 ^ 41
+slice_small xs i s n near lt is e =
+    let here = subst IsNearSlice (sym is) (near i s lt) in
+    let a = here.at in
+    let b = bytes_few s.kind in
+    omega arith
+
 pub product_small : (pieces stride : ℕ) → pieces ≤ 2 ^ 20 → stride ≤ 2 ^ 40 → (pieces - 1) * stride ≤ 2 ^ 60
 product_small pieces stride p s = mul-le (pieces - 1) stride (2 ^ 20) (2 ^ 40) (omega arith) s
+
+-- ---- samplings
+
+pub zero_true : (n : ℕ) → n ≡ 0 → eqb n 0 ≡ true
+zero_true n h = grind (arith, nat_tests)
+
+pub zero_false : (n : ℕ) → n ≢ 0 → eqb n 0 ≡ false
+zero_false n h = grind (arith, nat_tests)
+
+pub sampled_more : (runs : List Run) (i : ℕ) (r : Run) → i < length runs → r ≡ get_or runs i r → r.sampling ≢ 0 → All IsSampledRun (take i runs) → All IsSampledRun (take (i + 1) runs)
+sampled_more runs i r lt is h before =
+    All-more IsSampledRun runs i r lt before (subst IsSampledRun is (record { sampling = omega arith }))
+
+pub plane_slices_at : (planes : List Plane) (i : ℕ) (p : Plane) → All (λ (x : Plane). is_empty_plane x ≡ false) planes → i < length planes → p ≡ get_or planes i p → 0 < length (slices_of_plane p)
+plane_slices_at planes i p filled lt is = plane_slices p (ap is_empty_plane is ∙ filled i p lt)

@@ -9,8 +9,9 @@ ghost use Rattle.exr_frame.specs.Judging.{is_empty_run, is_empty_plane, is_huge,
 ghost use Rattle.exr_frame.specs.Near.{IsNearSlice, IsNearRun, IsNearPlane, IsSampledRun};
 
 use crate::fault::LayoutFault;
+use crate::names::{names_once, slice_count};
 use crate::planes::{Plane, Run, Slice};
-use exr_base::{Box2i, Name, sample_count};
+use exr_base::{Box2i, sample_count};
 
 // ---- over all planes
 
@@ -42,6 +43,7 @@ fn first_empty(planes: &[Plane]) -> Option<usize>
 fn all_filled(planes: &[Plane]) -> Result<u64, LayoutFault>
     requires { length (slices_of planes.now) ≤ 1024 }
     ensures exact { result ≡ refused_at (λ p. LayoutFault.Empty p) (position is_empty_plane planes.now) }
+    ensures filled { OnOk result (All (λ p. is_empty_plane p ≡ false) planes.now) }
     ensures few { OnOk result (length planes.now ≤ 1024) }
 {
     match first_empty(planes) {
@@ -100,38 +102,6 @@ fn all_near(planes: &[Plane]) -> Result<u64, LayoutFault>
             plane: plane as u32,
         }),
     }
-}
-
-// ---- names
-
-/// How many slices runs have.
-fn slice_count(runs: &[Run]) -> usize
-    requires { length (slices_of_runs runs.now) ≤ 1024 }
-    ensures { result ≡ length (slices_of_runs runs.now) }
-{
-    let mut count = 0;
-    for run in runs {
-        count += run.slices.len();
-    }
-    count
-}
-
-/// The slice of a number among those of runs.
-fn slice_in_runs(runs: &[Run], number: usize) -> Option<&Slice>
-    ensures { option_copied result ≡ slice_get (slices_of_runs runs.now) number }
-{
-    runs.iter()
-        .flat_map(|run| run.slices.iter())
-        .nth(number)
-}
-
-/// The number of the first slice of runs with a name.
-fn named_in_runs(runs: &[Run], name: &Name) -> Option<usize>
-    ensures { result ≡ position (has_name name.now) (slices_of_runs runs.now) }
-{
-    runs.iter()
-        .flat_map(|run| run.slices.iter())
-        .position(|slice| slice.channel == *name)
 }
 
 // ---- slice by slice, run by run, plane by plane
@@ -255,10 +225,64 @@ fn runs_end(runs: &[Run], window: Box2i, first: u32) -> Result<u64, LayoutFault>
     Ok(ended)
 }
 
+/// A plane lies behind what has ended before it, its rows within its stride, and its end within the buffer.
+#[tactic(auto, unfolding(crate::specs::Judging::plane_judged))]
+fn plane_end(plane: &Plane, window: Box2i, buffer: u64, first: u32, ended: u64) -> Result<u64, LayoutFault>
+    requires near { IsNearPlane plane.now }
+    requires filled { is_empty_plane plane.now ≡ false }
+    requires region { IsRegion window }
+    requires few { first + length (slices_of_plane plane.now) ≤ 1024 }
+    requires begun { first ≡ 0 → ended ≡ 0 }
+    ensures { result ≡ plane_judged window buffer first ended plane.now }
+{
+    if plane.sampling == 0 {
+        return Err(LayoutFault::ZeroSampling { slice: first });
+    }
+    let runs = plane.runs.as_slice();
+    all_sampled(runs, first)?;
+    let each = runs_end(runs, window, first)?;
+    let last = first + slice_count(runs) as u32 - 1;
+    if plane.stride < each {
+        return Err(LayoutFault::ShortStride { slice: last });
+    }
+    if plane.base < ended {
+        return Err(LayoutFault::Overlap {
+            first: first - 1,
+            second: first,
+        });
+    }
+    let end = end_of(plane.base, plane.stride, rows_of(window, plane.sampling), each);
+    if buffer < end {
+        return Err(LayoutFault::OutOfBuffer { slice: last });
+    }
+    Ok(end)
+}
+
+/// Each plane begins where the one before has ended, or behind it, and ends within the buffer.
+fn planes_end(planes: &[Plane], window: Box2i, buffer: u64) -> Result<u64, LayoutFault>
+    requires near { All IsNearPlane planes.now }
+    requires filled { All (λ p. is_empty_plane p ≡ false) planes.now }
+    requires region { IsRegion window }
+    requires few { length (slices_of planes.now) ≤ 1024 }
+    ensures { result ≡ planes_judged window buffer 0 0 planes.now }
+{
+    let mut number = 0;
+    let mut ended = 0;
+    for plane in planes {
+        ended = plane_end(plane, window, buffer, number, ended)?;
+        number += slice_count(plane.runs.as_slice()) as u32;
+    }
+    Ok(ended)
+}
+
 /// The tests, in their order.
+#[tactic(auto, unfolding(crate::specs::Judging::frame_judged))]
 pub(crate) fn planes_fit(planes: &[Plane], window: Box2i, buffer: u64) -> Result<u64, LayoutFault>
     requires { IsFrame (frame_from planes.now window buffer) }
     ensures { result ≡ frame_judged (frame_from planes.now window buffer) }
 {
-    Ok(0)
+    all_filled(planes)?;
+    all_near(planes)?;
+    names_once(planes)?;
+    planes_end(planes, window, buffer)
 }

@@ -5,6 +5,7 @@
 mod fault;
 mod judging;
 mod layout;
+mod names;
 mod planes;
 mod spot;
 
