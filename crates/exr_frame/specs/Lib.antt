@@ -2,3 +2,4 @@ pub mod Fault
 pub mod Judging
 pub mod Near
 pub mod Place
+pub mod Plan

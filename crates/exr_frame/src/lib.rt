@@ -6,9 +6,11 @@ mod fault;
 mod judging;
 mod layout;
 mod names;
+mod plan;
 mod planes;
 mod spot;
 
 pub use fault::{LayoutFault, MatchFault};
 pub use layout::Layout;
+pub use plan::Plan;
 pub use planes::{Plane, Run, Slice};

@@ -1,0 +1,102 @@
+//! A layout matched with the channels of a part: which channel each slice holds.
+
+ghost use Rattle.std.specs.Prelude.{◌≡◌, ◌≤◌, ◌<◌, ℕ, length, position, slice_index_or, slice_get, Some, None, IfOk, IfSome, replicate};
+ghost use Rattle.exr_base.specs.Refusal.{Gives};
+ghost use Rattle.exr_header.specs.Picture.{IsPicture};
+ghost use Rattle.exr_frame.specs.Place.{spots_of};
+ghost use Rattle.exr_frame.specs.Plan.{channel_at, same_kind, same_samplings, against, is_named, is_inside, slice_matched, slices_matched, part_matched, IsPlanOf};
+
+use crate::fault::MatchFault;
+use crate::layout::Layout;
+use crate::spot::{Spot, spots_of};
+use exr_base::{Box2i, Channel, Kind, Name, NoMemory, Refusal};
+use exr_header::Header;
+use std::alloc::Global;
+
+/// Which channel of a part each slice of a layout holds, if any.
+#[derive(Drop, Debug)]
+pub struct Plan {
+    pub(crate) spots: Vec<Spot>,
+    /// For each slice the place of its channel.
+    pub(crate) channels: Vec<Option<u32>>,
+    /// For each channel of the part the number of its slice.
+    pub(crate) slices: Vec<Option<u32>>,
+}
+
+impl Plan {
+    /// The place of a slice's channel among those of the part; None where the part has no channel of its name.
+    pub fn channel(&self, slice: u32) -> Option<u32>
+        requires { slice < length self.now.channels.items }
+        ensures { result ≡ slice_index_or self.now.channels.items slice None }
+    {
+        self.channels[slice as usize]
+    }
+}
+
+fn same_kind(a: Kind, b: Kind) -> bool
+    ensures { result ≡ same_kind a b }
+{
+    a == b
+}
+
+fn same_samplings(spot: &Spot, channel: &Channel) -> bool
+    ensures { result ≡ same_samplings spot.now channel.now }
+{
+    channel.xs == spot.sampling && channel.ys == spot.row_sampling
+}
+
+fn named(channels: &[Channel], name: &Name) -> Option<usize>
+    ensures { result ≡ position (is_named name.now) channels.now }
+{
+    channels.iter().position(|channel| channel.name == *name)
+}
+
+/// A slice against the channel of its name.
+fn against(number: u32, spot: &Spot, channel: &Channel, place: u32) -> Result<Option<u32>, MatchFault>
+    ensures { result ≡ against number spot.now channel.now place }
+{
+    if !same_kind(channel.kind, spot.kind) {
+        return Err(MatchFault::KindDiffers { slice: number });
+    }
+    if !same_samplings(spot, channel) {
+        return Err(MatchFault::SamplingDiffers { slice: number });
+    }
+    Ok(Some(place))
+}
+
+/// The place of a slice's channel, if the part has one.
+#[tactic(auto, unfolding(crate::specs::Plan::slice_matched))]
+fn slice_matched(channels: &[Channel], number: u32, spot: &Spot) -> Result<Option<u32>, MatchFault>
+    requires { length channels.now ≤ 1024 }
+    ensures exact { result ≡ slice_matched channels.now number spot.now }
+    ensures within { IfOk result (λ place. IfSome place (λ c. c < length channels.now)) }
+{
+    match named(channels, &spot.channel) {
+        None => Ok(None),
+        Some(place) => against(number, spot, &channels[place], place as u32),
+    }
+}
+
+/// The places of the slices' channels.
+fn slices_matched(alloc: Global, channels: &[Channel], spots: &[Spot]) -> Result<Vec<Option<u32>>, Refusal<MatchFault>>
+    requires few { length spots.now ≤ 1024 }
+    requires channels { length channels.now ≤ 1024 }
+    ensures { Gives (λ places. places.items) result (slices_matched channels.now 0 spots.now) }
+{
+    let mut places = Vec::with_capacity(alloc, spots.len())?;
+    let mut number = 0;
+    for spot in spots {
+        match slice_matched(channels, number, spot) {
+            Ok(place) => places.push(place)?,
+            Err(fault) => return Err(Refusal::Fault(fault)),
+        }
+        number += 1;
+    }
+    Ok(places)
+}
+
+fn is_inside(a: Box2i, b: Box2i) -> bool
+    ensures { result ≡ is_inside a b }
+{
+    b.x0 <= a.x0 && a.x1 <= b.x1 && b.y0 <= a.y0 && a.y1 <= b.y1
+}
