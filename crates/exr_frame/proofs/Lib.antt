@@ -1,3 +1,4 @@
 pub mod Counted
 pub mod Listed
+pub mod Matched
 pub mod Rests

@@ -1,5 +1,5 @@
 -- A layout against the channels of a part (own).
-use Rattle.std.specs.Prelude.{◌≡◌, ◌==◌, ◌<◌, ◌+◌, ◌&&◌, int_le, ℕ, Bool, true, false, List, [], ◌∷◌, length, position, slice_index_or, slice_get, nat_eq, Option, Some, None, Result, Ok, Err, if◌then◌else◌}
+use Rattle.std.specs.Prelude.{◌≡◌, ◌==◌, ◌<◌, ◌+◌, ◌&&◌, int_le, ℕ, ℤ, Bool, true, false, List, [], ◌∷◌, length, position, slice_index_or, nat_eq, Option, Some, None, Result, Ok, Err, if◌then◌else◌}
 use Rattle.std.specs.Cmp.Lexicographic.{pointwise}
 use Rattle.exr_base.specs.declared.shape.Box2i.{Box2i}
 use Rattle.exr_base.specs.declared.channel.Kind.{Kind}
@@ -54,8 +54,11 @@ slices_matched channels n [] = Ok []
 slices_matched channels n (spot ∷ rest) =
     slice_matched channels n spot >>= λ place. slices_matched channels (n + 1) rest >>= λ others. Ok (place ∷ others)
 
+abbrev pub is_side_inside : ℤ → ℤ → ℤ → ℤ → Bool
+is_side_inside from to low high = int_le low from && int_le to high
+
 abbrev pub is_inside : Box2i → Box2i → Bool
-is_inside a b = (int_le b.x0 a.x0 && int_le a.x1 b.x1) && (int_le b.y0 a.y0 && int_le a.y1 b.y1)
+is_inside a b = is_side_inside a.x0 a.x1 b.x0 b.x1 && is_side_inside a.y0 a.y1 b.y0 b.y1
 
 -- the place of the channel of each slice, or the first thing that differs
 unfoldable pub part_matched : Frame → Header → Result (List (Option ℕ)) MatchFault
@@ -67,5 +70,5 @@ pub record IsPlanOf (f : Frame) (part : List Channel) (plan : Plan) : Type 0 whe
   pub spots : plan.spots.items ≡ spots_of f.planes
   pub matched : slices_matched part 0 (spots_of f.planes) ≡ Ok plan.channels.items
   pub count : length plan.slices.items ≡ length part
-  pub slices : (s c : ℕ) → slice_get plan.channels.items s ≡ Some (Some c) → slice_get plan.slices.items c ≡ Some (Some s)
-  pub channels : (s c : ℕ) → slice_get plan.slices.items c ≡ Some (Some s) → slice_get plan.channels.items s ≡ Some (Some c)
+  pub slices : (s c : ℕ) → slice_index_or plan.channels.items s None ≡ Some c → slice_index_or plan.slices.items c None ≡ Some s
+  pub channels : (s c : ℕ) → slice_index_or plan.slices.items c None ≡ Some s → slice_index_or plan.channels.items s None ≡ Some c

@@ -12,5 +12,5 @@ mod spot;
 
 pub use fault::{LayoutFault, MatchFault};
 pub use layout::Layout;
-pub use plan::Plan;
+pub use plan::{Plan, match_part};
 pub use planes::{Plane, Run, Slice};

@@ -1,10 +1,11 @@
 //! A layout matched with the channels of a part: which channel each slice holds.
 
-ghost use Rattle.std.specs.Prelude.{◌≡◌, ◌≤◌, ◌<◌, ℕ, length, position, slice_index_or, slice_get, Some, None, IfOk, IfSome, replicate};
+ghost use Rattle.std.specs.Prelude.{◌≡◌, ◌≤◌, ◌<◌, ℕ, length, position, slice_index_or, Some, None, IfOk, IfSome};
 ghost use Rattle.exr_base.specs.Refusal.{Gives};
 ghost use Rattle.exr_header.specs.Picture.{IsPicture};
+ghost use Rattle.exr_frame.specs.Inverse.{AreInverse};
 ghost use Rattle.exr_frame.specs.Place.{spots_of};
-ghost use Rattle.exr_frame.specs.Plan.{channel_at, same_kind, same_samplings, against, is_named, is_inside, slice_matched, slices_matched, part_matched, IsPlanOf};
+ghost use Rattle.exr_frame.specs.Plan.{channel_at, same_kind, same_samplings, against, is_named, is_side_inside, is_inside, slice_matched, slices_matched, part_matched, IsPlanOf};
 
 use crate::fault::MatchFault;
 use crate::layout::Layout;
@@ -95,8 +96,51 @@ fn slices_matched(alloc: Global, channels: &[Channel], spots: &[Spot]) -> Result
     Ok(places)
 }
 
+fn is_side_inside(from: i32, to: i32, low: i32, high: i32) -> bool
+    ensures { result ≡ is_side_inside from to low high }
+{
+    low <= from && to <= high
+}
+
 fn is_inside(a: Box2i, b: Box2i) -> bool
     ensures { result ≡ is_inside a b }
 {
-    b.x0 <= a.x0 && a.x1 <= b.x1 && b.y0 <= a.y0 && a.y1 <= b.y1
+    is_side_inside(a.x0, a.x1, b.x0, b.x1) && is_side_inside(a.y0, a.y1, b.y0, b.y1)
+}
+
+/// For each channel of a part, so many, the number of its slice.
+fn by_channel(alloc: Global, channels: &[Option<u32>], count: usize) -> Result<Vec<Option<u32>>, NoMemory>
+    requires few { length channels.now ≤ 1024 }
+    requires within { (s c : ℕ) → slice_index_or channels.now s None ≡ Some c → c < count }
+    requires once { (s t c : ℕ) → slice_index_or channels.now s None ≡ Some c
+        → slice_index_or channels.now t None ≡ Some c → s ≡ t }
+    ensures { IfOk result (λ slices. AreInverse channels.now count slices.items (length channels.now)) }
+{
+    let mut slices = vec![in alloc; None; count]?;
+    for number in 0..channels.len() {
+        if let Some(place) = channels[number] {
+            slices[place as usize] = Some(number as u32);
+        }
+    }
+    Ok(slices)
+}
+
+/// The plan of a layout for a part, or the first thing that differs.
+#[tactic(auto, unfolding(crate::specs::Plan::part_matched))]
+pub fn match_part(alloc: Global, layout: &Layout, header: &Header) -> Result<Plan, Refusal<MatchFault>>
+    requires { IsPicture header.now }
+    ensures exact { Gives (λ plan. plan.channels.items) result (part_matched layout.now header.now) }
+    ensures plan { IfOk result (IsPlanOf layout.now header.now.channels) }
+{
+    if !is_inside(layout.window(), header.window()) {
+        return Err(Refusal::Fault(MatchFault::WindowOutside));
+    }
+    let spots = spots_of(alloc, layout.planes())?;
+    let channels = slices_matched(alloc, header.channels(), spots.as_slice())?;
+    let slices = by_channel(alloc, channels.as_slice(), header.channels().len())?;
+    Ok(Plan {
+        spots,
+        channels,
+        slices,
+    })
 }
