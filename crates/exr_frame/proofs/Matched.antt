@@ -78,7 +78,7 @@ pub record IsChannelOf (channels : List Channel) (spot : Spot) (c : ℕ) : Type 
   pub columns : (channel_at channels c).xs ≡ spot.sampling
   pub rows : (channel_at channels c).ys ≡ spot.row_sampling
 
-bind_ok_from : {A B F : Type 0} (r : Result A F) (f : A → Result B F) (y : B) → (r >>= f) ≡ Ok y → (x : A) × (r ≡ Ok x) × (f x ≡ Ok y)
+pub bind_ok_from : {A B F : Type 0} (r : Result A F) (f : A → Result B F) (y : B) → (r >>= f) ≡ Ok y → (x : A) × (r ≡ Ok x) × (f x ≡ Ok y)
 bind_ok_from (Ok x) f y h = (x, refl, h)
 bind_ok_from (Err e) f y h = absurd (cc)
 
