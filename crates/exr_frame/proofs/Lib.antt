@@ -2,6 +2,7 @@ pub mod Columns
 pub mod Counted
 pub mod Listed
 pub mod Matched
+pub mod Putting
 pub mod Rests
 pub mod Standing
 pub mod Stands

@@ -4,13 +4,17 @@
 
 mod fault;
 mod judging;
+mod law;
 mod layout;
 mod names;
 mod plan;
 mod planes;
 mod spot;
+mod strides;
+mod strip;
 
 pub use fault::{LayoutFault, MatchFault};
+pub use law::each_byte_has_its_place;
 pub use layout::Layout;
 pub use plan::{Plan, match_part};
 pub use planes::{Plane, Run, Slice};
