@@ -6,3 +6,4 @@ pub mod Putting
 pub mod Rests
 pub mod Standing
 pub mod Stands
+pub mod Strips

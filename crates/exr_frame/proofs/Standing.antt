@@ -31,7 +31,7 @@ InRow window x = Again ℕ AtByte x.run x.stride (sample_count_of x.sampling win
 abbrev pub InBuffer : Box2i → Spot → ℕ × (ℕ × ℕ) → ℕ → Type 0
 InBuffer window x = Again (ℕ × ℕ) (InRow window) x.base x.row_stride (sample_count_of x.row_sampling window.y0 window.y1) x
 
-judged_passed : (b : Bool) (f : LayoutFault) (e x : ℕ) → judged b f e ≡ Ok x → (b ≡ false) × (e ≡ x)
+pub judged_passed : (b : Bool) (f : LayoutFault) (e x : ℕ) → judged b f e ≡ Ok x → (b ≡ false) × (e ≡ x)
 judged_passed true f e x h = absurd (cc)
 judged_passed false f e x h = (refl, cc)
 

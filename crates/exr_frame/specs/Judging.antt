@@ -145,12 +145,13 @@ pub record IsLawful (f : Frame) : Type 0 where
   pub ends : ℕ
   pub judged : frame_judged f ≡ Ok ends
 
--- a window that is not empty, and planes with at most 1,024 slices
+-- a window that is not empty, planes with at most 1,024 slices, and a buffer whose bytes 64 bits count
 pub record IsFrame (f : Frame) : Type 0 where
   pub region : IsRegion f.window
   pub columns : f.window.x0 ≤ℤ f.window.x1
   pub rows : f.window.y0 ≤ℤ f.window.y1
   pub few : length (slices_of f.planes) ≤ 1024
+  pub counted : f.buffer < 2 ^ 64
 
 -- the layout, or the first fault of its planes
 abbrev pub layout_of : Frame → Result Frame LayoutFault

@@ -57,12 +57,14 @@ spot_at spots s = slice_index_or spots s no_spot
 abbrev pub count_before : ℕ → ℤ → ℤ → ℕ
 count_before sampling from to = multiples_among sampling from (nat_abs (to -ℤ from))
 
--- where the sample of a slice at (x, y) begins in the buffer of a window: `row` rows and `col` places come before it
+-- where a sample of a slice begins in the buffer, behind so many rows of its plane and so many places of its row
+abbrev pub place_behind : Spot → ℕ → ℕ → ℕ
+place_behind spot row col = spot.base + row * spot.row_stride + spot.run + col * spot.stride + spot.at
+
+-- where the sample of a slice at (x, y) begins in the buffer of a window
 unfoldable pub place_in_buffer : Box2i → Spot → ℤ → ℤ → ℕ
 place_in_buffer window spot x y =
-    let row = count_before spot.row_sampling window.y0 y in
-    let col = count_before spot.sampling window.x0 x in
-    spot.base + row * spot.row_stride + spot.run + col * spot.stride + spot.at
+    place_behind spot (count_before spot.row_sampling window.y0 y) (count_before spot.sampling window.x0 x)
 
 -- a pixel of a box
 pub record IsWithin (region : Box2i) (x y : ℤ) : Type 0 where

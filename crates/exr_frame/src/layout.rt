@@ -57,7 +57,9 @@ impl Layout {
 
     /// The pixels whose samples the buffer holds.
     pub fn window(&self) -> Box2i
-        ensures { result ≡ self.now.window }
+        ensures value { result ≡ self.now.window }
+        ensures frame { IsFrame self.now }
+        ensures lawful { IsLawful self.now }
     {
         self.window
     }
