@@ -1,8 +1,9 @@
 -- The samples of a slice on a line: each stands a stride behind the one before.
-use Rattle.std.proofs.Common.{◌≡◌, ◌+◌, ◌-◌, ◌*◌, ◌<◌, ◌≤◌, ◌^◌, ℕ, zero, suc, ℤ, pos, ◌+ℤ◌, ◌-ℤ◌, ◌≤ℤ◌, nat_abs, Bool, true, false, List, [], ◌∷◌, ◌++◌, length, get_or, map, All, Result, Ok, Err, refl, sym, ap, ap₂, ◌∙◌, subst, inl, inr, arith, eqb, ltb}
+use Rattle.std.proofs.Common.{◌≡◌, ◌+◌, ◌-◌, ◌*◌, ◌<◌, ◌≤◌, ◌^◌, ℕ, zero, suc, ℤ, pos, neg_ℤ, ◌+ℤ◌, ◌-ℤ◌, ◌≤ℤ◌, nat_abs, Bool, true, false, List, [], ◌∷◌, ◌++◌, length, get_or, map, All, Result, Ok, Err, refl, sym, ap, ap₂, ◌∙◌, subst, inl, inr, arith, eqb, ltb}
+use Rattle.std.specs.Prelude.{int_lt}
 use Rattle.std.specs.Int.{int_min, int_max}
 use Rattle.std.specs.List.{flat_map, position}
-use Rattle.std.proofs.lemmas.Bool.{cases_lt}
+use Rattle.std.proofs.lemmas.Bool.{cases_lt, ltb-false}
 use Rattle.std.proofs.lemmas.Int.{ints, clamps}
 use Rattle.std.proofs.lemmas.List.Elements.{All-nil, All-cons, All-append}
 use Rattle.exr_base.specs.declared.shape.Box2i.{Box2i}
@@ -18,7 +19,7 @@ use Rattle.exr_frame.specs.declared.spot.Spot.{Spot}
 use Rattle.exr_frame.specs.declared.strip.Strip.{Strip}
 use Rattle.exr_frame.specs.declared.fault.LayoutFault.{LayoutFault}
 use Rattle.exr_frame.specs.declared.fault.LayoutFault.TheVariants.{Empty, Huge, ZeroSampling, Overlap, ShortStride, OutOfBuffer}
-use Rattle.exr_frame.specs.Judging.{Frame, IsFrame, IsLawful, judged, refused_at, samplings_judged, runs_judged, plane_end, last_of, plane_judged, planes_judged, slices_of_plane, slices_of, names_judged, is_empty_plane, is_huge_plane, frame_judged}
+use Rattle.exr_frame.specs.Judging.{Frame, IsFrame, IsLawful, judged, slice_end, slices_judged, run_end, run_judged, refused_at, samplings_judged, runs_judged, plane_end, last_of, plane_judged, planes_judged, slices_of_plane, slices_of, names_judged, is_empty_plane, is_huge_plane, frame_judged}
 use Rattle.exr_frame.specs.Place.{spot_of, spots_of_run, spots_of_plane, spots_of, spot_at, count_before, place_in_buffer, place_of, place_behind, IsWithin, IsNamed, Byte}
 use Rattle.exr_frame.specs.Put.{IsPut}
 use Rattle.exr_frame.specs.Rows.{IsInRow, IsOfRow, IsStrip, HasNone, IsLineOf, low_of, high_of}
@@ -71,6 +72,66 @@ spot_sampled f s lawful lt =
     let b = bind_ok_from (refused_at (λ plane. Huge plane) (position is_huge_plane f.planes)) (λ _. names_judged [] (slices_of f.planes) >>= λ _. planes_judged f.window f.buffer 0 0 f.planes) lawful.ends a.2 in
     let d = bind_ok_from (names_judged [] (slices_of f.planes)) (λ _. planes_judged f.window f.buffer 0 0 f.planes) lawful.ends b.2 in
     planes_spots_sampled f.window f.buffer 0 0 f.planes lawful.ends d.2 s _ lt
+
+-- ---- and their samples fit the strides
+
+pub record Fits (x : Spot) : Type 0 where
+  pub fits : bytes_of x.kind ≤ x.stride
+
+slices_to : (n ended : ℕ) (ss : List Slice) (e : ℕ) → slices_judged n ended ss ≡ Ok e → ended ≤ e
+unfolding slices_judged
+slices_to n ended [] e h = let same : ended ≡ e = cc in omega arith
+slices_to n ended (s ∷ ss) e h =
+    let a = bind_ok_from (judged (ltb s.at ended) (Overlap (n - 1) n) (slice_end s)) (λ m. slices_judged (n + 1) m ss) e h in
+    let t = judged_passed (ltb s.at ended) (Overlap (n - 1) n) (slice_end s) a.0 a.1 in
+    let le = ltb-false s.at ended t.0 in
+    let rest = slices_to (n + 1) a.0 ss e a.2 in
+    let same = t.1 in
+    omega arith
+
+slices_fit : (p : Plane) (r : Run) (n ended : ℕ) (ss : List Slice) (e : ℕ) → slices_judged n ended ss ≡ Ok e → e ≤ r.stride → All Fits (map (spot_of p r) ss)
+unfolding slices_judged
+slices_fit p r n ended [] e h le = All-nil Fits
+slices_fit p r n ended (s ∷ ss) e h le =
+    let a = bind_ok_from (judged (ltb s.at ended) (Overlap (n - 1) n) (slice_end s)) (λ m. slices_judged (n + 1) m ss) e h in
+    let t = judged_passed (ltb s.at ended) (Overlap (n - 1) n) (slice_end s) a.0 a.1 in
+    let to = slices_to (n + 1) a.0 ss e a.2 in
+    All-cons Fits (spot_of p r s) (map (spot_of p r) ss) (record { fits = omega (arith, t.1) }) (slices_fit p r (n + 1) a.0 ss e a.2 le)
+
+runs_fit : (window : Box2i) (p : Plane) (n ended : ℕ) (rs : List Run) (e : ℕ) → runs_judged window n ended rs ≡ Ok e → All Fits (flat_map (spots_of_run p) rs)
+unfolding runs_judged run_judged
+runs_fit window p n ended [] e h = All-nil Fits
+runs_fit window p n ended (r ∷ rs) e h =
+    let a = bind_ok_from (run_judged window n ended r) (λ m. runs_judged window (n + length r.slices.items) m rs) e h in
+    let f = ShortStride (n + length r.slices.items - 1) in
+    let b = bind_ok_from (slices_judged n 0 r.slices.items) (λ each. judged (ltb r.stride each) f each >>= λ fits. judged (ltb r.at ended) (Overlap (n - 1) n) (run_end window r fits)) a.0 a.1 in
+    let d = bind_ok_from (judged (ltb r.stride b.0) f b.0) (λ fits. judged (ltb r.at ended) (Overlap (n - 1) n) (run_end window r fits)) a.0 b.2 in
+    let t = judged_passed (ltb r.stride b.0) f b.0 d.0 d.1 in
+    All-append Fits (spots_of_run p r) (flat_map (spots_of_run p) rs) (slices_fit p r n 0 r.slices.items b.0 b.1 (ltb-false r.stride b.0 t.0)) (runs_fit window p (n + length r.slices.items) a.0 rs e a.2)
+
+plane_fits : (window : Box2i) (buffer n ended : ℕ) (p : Plane) (ends : ℕ) → plane_judged window buffer n ended p ≡ Ok ends → All Fits (spots_of_plane p)
+unfolding plane_judged
+plane_fits window buffer n ended p ends h =
+    let rest = λ (each : ℕ). judged (ltb p.stride each) (ShortStride (last_of n p)) each >>= λ fits. judged (ltb p.base ended) (Overlap (n - 1) n) (plane_end window p fits) >>= λ begins. judged (ltb buffer begins) (OutOfBuffer (last_of n p)) begins in
+    let a = bind_ok_from (judged (eqb p.sampling 0) (ZeroSampling n) 0) (λ _. samplings_judged n p.runs.items >>= λ _. runs_judged window n 0 p.runs.items >>= rest) ends h in
+    let b = bind_ok_from (samplings_judged n p.runs.items) (λ _. runs_judged window n 0 p.runs.items >>= rest) ends a.2 in
+    let c = bind_ok_from (runs_judged window n 0 p.runs.items) rest ends b.2 in
+    runs_fit window p n 0 p.runs.items c.0 c.1
+
+planes_fit : (window : Box2i) (buffer n ended : ℕ) (ps : List Plane) (ends : ℕ) → planes_judged window buffer n ended ps ≡ Ok ends → All Fits (spots_of ps)
+unfolding planes_judged
+planes_fit window buffer n ended [] ends h = All-nil Fits
+planes_fit window buffer n ended (p ∷ ps) ends h =
+    let a = bind_ok_from (plane_judged window buffer n ended p) (λ e. planes_judged window buffer (n + length (slices_of_plane p)) e ps) ends h in
+    All-append Fits (spots_of_plane p) (spots_of ps) (plane_fits window buffer n ended p a.0 a.1) (planes_fit window buffer (n + length (slices_of_plane p)) a.0 ps ends a.2)
+
+pub slice_fits : (f : Frame) (s : ℕ) → IsLawful f → s < length (spots_of f.planes) → Fits (spot_at (spots_of f.planes) s)
+unfolding frame_judged
+slice_fits f s lawful lt =
+    let a = bind_ok_from (refused_at (λ plane. Empty plane) (position is_empty_plane f.planes)) (λ _. refused_at (λ plane. Huge plane) (position is_huge_plane f.planes) >>= λ _. names_judged [] (slices_of f.planes) >>= λ _. planes_judged f.window f.buffer 0 0 f.planes) lawful.ends lawful.judged in
+    let b = bind_ok_from (refused_at (λ plane. Huge plane) (position is_huge_plane f.planes)) (λ _. names_judged [] (slices_of f.planes) >>= λ _. planes_judged f.window f.buffer 0 0 f.planes) lawful.ends a.2 in
+    let d = bind_ok_from (names_judged [] (slices_of f.planes)) (λ _. planes_judged f.window f.buffer 0 0 f.planes) lawful.ends b.2 in
+    planes_fit f.window f.buffer 0 0 f.planes lawful.ends d.2 s _ lt
 
 -- ---- along a line
 
@@ -177,3 +238,63 @@ first_fits f region s y frame lawful line le some =
     let w = within_of f region s y 0 0 lawful (found f region s y 0 0 line le some (bytes_some (spot_at (spots_of f.planes) s))) in
     let c = frame.counted in
     omega arith
+
+pub columns_sampled : (f : Frame) (s : ℕ) (x : Spot) → IsLawful f → s < length (spots_of f.planes) → x ≡ spot_at (spots_of f.planes) s → IsSampledSpot x
+columns_sampled f s x lawful lt e = subst IsSampledSpot (sym e) (spot_sampled f s lawful lt)
+
+pub low_near : (a b low : ℤ) → low ≡ int_max a b → neg_ℤ (pos (2 ^ 30)) ≤ℤ a → neg_ℤ (pos (2 ^ 30)) ≤ℤ low
+low_near a b low e h = omega (arith, ints, clamps)
+
+pub low_behind : (a b low : ℤ) → low ≡ int_max a b → b ≤ℤ low
+low_behind a b low e = omega (arith, ints, clamps)
+
+pub none_between : (f : Frame) (region : Box2i) (s : ℕ) (y low high : ℤ) (x : Spot) (n : ℕ) → x ≡ spot_at (spots_of f.planes) s → low ≡ low_of f.window region → high ≡ high_of f.window region → n ≡ sample_count_of x.sampling low high → n ≡ 0 → HasNone f region s y
+none_between f region s y low high x n ex el eh e z =
+    none_counted f region s y n (e ∙ ap₂ (sample_count_of x.sampling) el eh ∙ ap (λ (t : Spot). sample_count_of t.sampling (low_of f.window region) (high_of f.window region)) ex) z
+
+pub numbers_fit : (f : Frame) (region : Box2i) (s : ℕ) (y low high : ℤ) (x : Spot) (n line column : ℕ) → IsFrame f → IsLawful f → IsLineOf f region s y
+    → x ≡ spot_at (spots_of f.planes) s → low ≡ low_of f.window region → high ≡ high_of f.window region → low ≤ℤ high → n ≡ sample_count_of x.sampling low high → 0 < n
+    → line ≡ count_before x.row_sampling f.window.y0 y → column ≡ count_before x.sampling f.window.x0 low → place_behind x line column < 2 ^ 64
+numbers_fit f region s y low high x n line column frame lawful is_line ex el eh le en some e c =
+    let le' : low_of f.window region ≤ℤ high_of f.window region = subst (λ (z : ℤ). z ≤ℤ high_of f.window region) el (subst (λ (z : ℤ). low ≤ℤ z) eh le) in
+    let n' : n ≡ sample_count_of (spot_at (spots_of f.planes) s).sampling (low_of f.window region) (high_of f.window region) = en ∙ ap₂ (sample_count_of x.sampling) el eh ∙ ap (λ (t : Spot). sample_count_of t.sampling (low_of f.window region) (high_of f.window region)) ex in
+    let fits = first_fits f region s y frame lawful is_line le' (subst (λ m. 0 < m) n' some) in
+    let same : place_behind x line column ≡ first_place f s y (low_of f.window region) =
+        ap₂ (place_behind x) e (c ∙ ap (count_before x.sampling f.window.x0) el) ∙ ap (λ (t : Spot). place_behind t (count_before t.row_sampling f.window.y0 y) (count_before t.sampling f.window.x0 (low_of f.window region))) ex in
+    subst (λ m. m < 2 ^ 64) (sym same) fits
+
+last_room : (a n stride b buffer : ℕ) → 0 < n → 0 < b → a + (n - 1) * stride + (b - 1) < buffer → a + (n - 1) * stride + b ≤ buffer
+last_room a n stride b buffer some part h = omega arith
+
+pub strip_is : (f : Frame) (region : Box2i) (s : ℕ) (y low high : ℤ) (x : Spot) (n line column at skip : ℕ) → IsFrame f → IsLawful f → IsLineOf f region s y
+    → x ≡ spot_at (spots_of f.planes) s → low ≡ low_of f.window region → high ≡ high_of f.window region → low ≤ℤ high → n ≡ sample_count_of x.sampling low high → 0 < n
+    → line ≡ count_before x.row_sampling f.window.y0 y → column ≡ count_before x.sampling f.window.x0 low → at ≡ place_behind x line column → skip ≡ count_before x.sampling region.x0 low
+    → IsStrip f region s y (record { at = at; samples = n; skip = skip })
+strip_is f region s y low high x n line column at skip frame lawful is_line ex el eh le en some e c ea es =
+    let t = spot_at (spots_of f.planes) s in
+    let le' : low_of f.window region ≤ℤ high_of f.window region = subst (λ (z : ℤ). z ≤ℤ high_of f.window region) el (subst (λ (z : ℤ). low ≤ℤ z) eh le) in
+    let n' : n ≡ sample_count_of t.sampling (low_of f.window region) (high_of f.window region) = en ∙ ap₂ (sample_count_of x.sampling) el eh ∙ ap (λ (t : Spot). sample_count_of t.sampling (low_of f.window region) (high_of f.window region)) ex in
+    let at' : at ≡ first_place f s y (low_of f.window region) =
+        ea ∙ ap₂ (place_behind x) e (c ∙ ap (count_before x.sampling f.window.x0) el) ∙ ap (λ (t : Spot). place_behind t (count_before t.row_sampling f.window.y0 y) (count_before t.sampling f.window.x0 (low_of f.window region))) ex in
+    let skip' : skip ≡ count_before t.sampling region.x0 (low_of f.window region) = es ∙ ap (count_before x.sampling region.x0) el ∙ ap (λ (t : Spot). count_before t.sampling region.x0 (low_of f.window region)) ex in
+    let part = bytes_some t in
+    let w = within_of f region s y (n - 1) (bytes_of t.kind - 1) lawful (found f region s y (n - 1) (bytes_of t.kind - 1) is_line le' (omega (arith, n')) (omega arith)) in
+    let last = found f region s y (n - 1) 0 is_line le' (omega (arith, n')) part in
+    let reach = along f region s y last.at last.in_row in
+    let inner = before_count t.sampling region.x0 last.at.x region.x1 last.in_row.within.left last.in_row.within.right (ap (λ (v : Spot). is_multiple v.sampling last.at.x) (ap (spot_at (spots_of f.planes)) (sym last.in_row.slice)) ∙ last.in_row.named.column) in
+    record {
+      ordered = le';
+      samples = n';
+      at = at';
+      skip = skip';
+      some = some;
+      stride = (slice_fits f s lawful is_line.slice).fits;
+      room = last_room at n t.stride (bytes_of t.kind) f.buffer some part (subst (λ m. m + (n - 1) * t.stride + (bytes_of t.kind - 1) < f.buffer) (sym at') w);
+      inside = omega (arith, skip', reach.behind, last.count, inner, some);
+    }
+
+crossed : (a b c d low high : ℤ) → low ≡ int_max a c → high ≡ int_min b d → int_lt high low ≡ true → (int_min b d +ℤ pos 1) ≤ℤ int_max a c
+crossed a b c d low high el eh h = grind (arith, ints, clamps)
+
+pub none_crossed : (f : Frame) (region : Box2i) (s : ℕ) (y low high : ℤ) → low ≡ low_of f.window region → high ≡ high_of f.window region → int_lt high low ≡ true → HasNone f region s y
+none_crossed f region s y low high el eh h = none_behind f region s y (crossed f.window.x0 f.window.x1 region.x0 region.x1 low high el eh h)
