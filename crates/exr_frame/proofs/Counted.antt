@@ -103,7 +103,7 @@ plane_filled p h = or_right (eqb (length p.runs.items) 0) (list_any is_empty_run
 pub none_of : {X : Type 0} (test : X → Bool) (xs : List X) → list_any test xs ≡ false → All (λ x. test x ≡ false) xs
 none_of test xs h k d lt =
     let both : (b : Bool) → test (get_or xs k d) ≡ b → b ≡ false =
-        λ b. elim b as (λ b. test (get_or xs k d) ≡ b → b ≡ false) [ true ↦ λ e. absurd (let f = list_any_at test xs k d lt e in cc) | false ↦ λ e. refl ] in
+    λ b. elim b as (λ b. test (get_or xs k d) ≡ b → b ≡ false) [ true ↦ λ e. absurd (let f = list_any_at test xs k d lt e in cc) | false ↦ λ e. refl ] in
     both (test (get_or xs k d)) refl
 
 pub run_filled : (runs : List Run) (i : ℕ) (r : Run) → list_any is_empty_run runs ≡ false → i < length runs → r ≡ get_or runs i r → 0 < length r.slices.items

@@ -2,8 +2,6 @@ pub mod Columns
 pub mod Counted
 pub mod Listed
 pub mod Matched
-pub mod Putting
 pub mod Rests
 pub mod Standing
 pub mod Stands
-pub mod Strips

@@ -101,8 +101,8 @@ names_at (x ∷ xs) (suc n) s h = let r = names_at xs n s h in (omega (arith, r.
 
 names_step : (all : List Slice) (n : ℕ) (s : Slice) → n < length all → s ≡ get_or all n s
     → names_judged (take n all) (drop n all)
-      ≡ (refused_at (λ first. TwiceChannel first n) (cond (ltb (position_or_len (has_name s.channel) all) n) (Some (position_or_len (has_name s.channel) all)) None)
-        >>= λ _. names_judged (take (n + 1) all) (drop (n + 1) all))
+    ≡ (refused_at (λ first. TwiceChannel first n) (cond (ltb (position_or_len (has_name s.channel) all) n) (Some (position_or_len (has_name s.channel) all)) None)
+    >>= λ _. names_judged (take (n + 1) all) (drop (n + 1) all))
 unfolding names_judged
 names_step all n s lt is =
     let more : take (n + 1) all ≡ take n all ++ s ∷ [] = take_more all n s lt ∙ ap (λ (x : Slice). take n all ++ x ∷ []) (sym is) in

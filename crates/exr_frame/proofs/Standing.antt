@@ -48,8 +48,8 @@ slices_stand p r n ended (s ∷ rest) ends h =
     let t = judged_passed (ltb s.at ended) (Overlap (n - 1) n) (slice_end s) a.0 a.1 in
     let le = ltb-false s.at ended t.0 in
     behind ℕ AtByte ended (slice_end s) a.0 ends (spot_of p r s ∷ []) (map (spot_of p r) rest) (omega (arith, t.1))
-      (lower ℕ AtByte ended s.at (slice_end s) (spot_of p r s ∷ []) le (slice_stands (spot_of p r s)))
-      (slices_stand p r (n + 1) a.0 rest ends a.2)
+    (lower ℕ AtByte ended s.at (slice_end s) (spot_of p r s ∷ []) le (slice_stands (spot_of p r s)))
+    (slices_stand p r (n + 1) a.0 rest ends a.2)
 
 -- ---- runs
 
@@ -88,9 +88,9 @@ run_stands window p n ended r ends h =
     record {
       behind = ltb-false r.at ended u.0;
       stands = subst (λ m. Stands (ℕ × ℕ) (InRow window) r.at m (spots_of_run p r)) same
-        (again ℕ AtByte (InRow window) r.at r.stride (sample_count_of r.sampling window.x0 window.x1) a.0 (spots_of_run p r)
+          (again ℕ AtByte (InRow window) r.at r.stride (sample_count_of r.sampling window.x0 window.x1) a.0 (spots_of_run p r)
           (λ i k m lt c. let o = of_run p r r.slices.items i lt in
-            retold ℕ AtByte _ _ _ r.at r.stride (sample_count_of r.sampling window.x0 window.x1) (spot_at (spots_of_run p r) i) k m o.run o.stride (ap (λ s. sample_count_of s window.x0 window.x1) o.sampling) c)
+          retold ℕ AtByte _ _ _ r.at r.stride (sample_count_of r.sampling window.x0 window.x1) (spot_at (spots_of_run p r) i) k m o.run o.stride (ap (λ s. sample_count_of s window.x0 window.x1) o.sampling) c)
           (ltb-false r.stride a.0 t.0) (slices_stand p r n 0 r.slices.items a.0 a.1));
     }
 
@@ -101,8 +101,8 @@ runs_stand window p n ended (r ∷ rest) ends h =
     let a = bind_ok_from (run_judged window n ended r) (λ e. runs_judged window (n + length r.slices.items) e rest) ends h in
     let s = run_stands window p n ended r a.0 a.1 in
     behind (ℕ × ℕ) (InRow window) ended a.0 a.0 ends (spots_of_run p r) (flat_map (spots_of_run p) rest) (omega arith)
-      (lower (ℕ × ℕ) (InRow window) ended r.at a.0 (spots_of_run p r) s.behind s.stands)
-      (runs_stand window p (n + length r.slices.items) a.0 rest ends a.2)
+    (lower (ℕ × ℕ) (InRow window) ended r.at a.0 (spots_of_run p r) s.behind s.stands)
+    (runs_stand window p (n + length r.slices.items) a.0 rest ends a.2)
 
 -- ---- planes
 
@@ -151,9 +151,9 @@ plane_stands window buffer n ended p ends h =
     record {
       behind = ltb-false p.base ended u.0;
       stands = subst (λ m. Stands (ℕ × (ℕ × ℕ)) (InBuffer window) p.base m (spots_of_plane p)) same
-        (again (ℕ × ℕ) (InRow window) (InBuffer window) p.base p.stride (sample_count_of p.sampling window.y0 window.y1) c.0 (spots_of_plane p)
+          (again (ℕ × ℕ) (InRow window) (InBuffer window) p.base p.stride (sample_count_of p.sampling window.y0 window.y1) c.0 (spots_of_plane p)
           (λ i k m lt q. let w = of_plane p p.runs.items i lt in
-            retold (ℕ × ℕ) (InRow window) _ _ _ p.base p.stride (sample_count_of p.sampling window.y0 window.y1) (spot_at (spots_of_plane p) i) k m w.base w.stride (ap (λ s. sample_count_of s window.y0 window.y1) w.sampling) q)
+          retold (ℕ × ℕ) (InRow window) _ _ _ p.base p.stride (sample_count_of p.sampling window.y0 window.y1) (spot_at (spots_of_plane p) i) k m w.base w.stride (ap (λ s. sample_count_of s window.y0 window.y1) w.sampling) q)
           (ltb-false p.stride c.0 t.0) (runs_stand window p n 0 p.runs.items c.0 c.1));
       within = omega (arith, v.1);
     }
@@ -173,7 +173,7 @@ planes_stand window buffer n ended (p ∷ rest) ends h =
     let t = planes_stand window buffer (n + length (slices_of_plane p)) a.0 rest ends a.2 in
     record {
       stands = behind (ℕ × (ℕ × ℕ)) (InBuffer window) ended a.0 a.0 ends (spots_of_plane p) (spots_of rest) (omega arith)
-        (lower (ℕ × (ℕ × ℕ)) (InBuffer window) ended p.base a.0 (spots_of_plane p) s.behind s.stands) t.stands;
+          (lower (ℕ × (ℕ × ℕ)) (InBuffer window) ended p.base a.0 (spots_of_plane p) s.behind s.stands) t.stands;
       within = λ le. t.within s.within;
     }
 
@@ -239,7 +239,7 @@ place_once f lawful j k named named' e =
     let x = spot_at spots j.slice in
     let y = spot_at spots k.slice in
     let o = s.stands.once j.slice k.slice (key_of f.window x j) (key_of f.window y k) (place_of f.window spots j) named.slice named'.slice (claimed f.window spots j named)
-      (subst (λ n. InBuffer f.window y (key_of f.window y k) n) (sym e) (claimed f.window spots k named')) in
+    (subst (λ n. InBuffer f.window y (key_of f.window y k) n) (sym e) (claimed f.window spots k named')) in
     let same : y ≡ x = ap (spot_at spots) (sym o.0) in
     let rows : count_before x.row_sampling f.window.y0 j.y ≡ count_before x.row_sampling f.window.y0 k.y = ap (λ (q : ℕ × (ℕ × ℕ)). q.0) o.1 ∙ ap (λ (z : Spot). count_before z.row_sampling f.window.y0 k.y) same in
     let columns : count_before x.sampling f.window.x0 j.x ≡ count_before x.sampling f.window.x0 k.x = ap (λ (q : ℕ × (ℕ × ℕ)). q.1.0) o.1 ∙ ap (λ (z : Spot). count_before z.sampling f.window.x0 k.x) same in
@@ -247,6 +247,6 @@ place_once f lawful j k named named' e =
     let line : is_multiple x.row_sampling k.y ≡ true = ap (λ (z : Spot). is_multiple z.row_sampling k.y) (sym same) ∙ named'.line in
     let column : is_multiple x.sampling k.x ≡ true = ap (λ (z : Spot). is_multiple z.sampling k.x) (sym same) ∙ named'.column in
     same_byte j k o.0
-      (same_multiple x.sampling f.window.x0 j.x k.x named.within.left named'.within.left named.column column columns)
-      (same_multiple x.row_sampling f.window.y0 j.y k.y named.within.top named'.within.top named.line line rows)
-      bytes
+    (same_multiple x.sampling f.window.x0 j.x k.x named.within.left named'.within.left named.column column columns)
+    (same_multiple x.row_sampling f.window.y0 j.y k.y named.within.top named'.within.top named.line line rows)
+    bytes

@@ -4,5 +4,3 @@ pub mod Judging
 pub mod Near
 pub mod Place
 pub mod Plan
-pub mod Put
-pub mod Rows

@@ -227,7 +227,13 @@ fn runs_end(runs: &[Run], window: Box2i, first: u32) -> Result<u64, LayoutFault>
 
 /// A plane lies behind what has ended before it, its rows within its stride, and its end within the buffer.
 #[tactic(auto, unfolding(crate::specs::Judging::plane_judged))]
-fn plane_end(plane: &Plane, window: Box2i, buffer: u64, first: u32, ended: u64) -> Result<u64, LayoutFault>
+fn plane_end(
+    plane: &Plane,
+    window: Box2i,
+    buffer: u64,
+    first: u32,
+    ended: u64,
+) -> Result<u64, LayoutFault>
     requires near { IsNearPlane plane.now }
     requires filled { is_empty_plane plane.now ≡ false }
     requires region { IsRegion window }
@@ -251,7 +257,12 @@ fn plane_end(plane: &Plane, window: Box2i, buffer: u64, first: u32, ended: u64) 
             second: first,
         });
     }
-    let end = end_of(plane.base, plane.stride, rows_of(window, plane.sampling), each);
+    let end = end_of(
+        plane.base,
+        plane.stride,
+        rows_of(window, plane.sampling),
+        each,
+    );
     if buffer < end {
         return Err(LayoutFault::OutOfBuffer { slice: last });
     }

@@ -14,7 +14,7 @@ pub fn each_byte_has_its_place(layout: &Layout)
     ensures once { (j : Byte) → (k : Byte) → IsNamed layout.now.window (spots_of layout.now.planes) j
         → IsNamed layout.now.window (spots_of layout.now.planes) k
         → place_of layout.now.window (spots_of layout.now.planes) j
-            ≡ place_of layout.now.window (spots_of layout.now.planes) k → j ≡ k }
+        ≡ place_of layout.now.window (spots_of layout.now.planes) k → j ≡ k }
 {
     let _lawful = layout.planes();
 }

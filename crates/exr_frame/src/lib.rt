@@ -10,11 +10,12 @@ mod names;
 mod plan;
 mod planes;
 mod spot;
-mod strides;
-mod strip;
+#[cfg(test)]
+mod tests;
 
 pub use fault::{LayoutFault, MatchFault};
 pub use law::each_byte_has_its_place;
 pub use layout::Layout;
+pub use names::has_few_slices;
 pub use plan::{Plan, match_part};
 pub use planes::{Plane, Run, Slice};

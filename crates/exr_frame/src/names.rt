@@ -1,6 +1,6 @@
 //! The names of the slices: no two are the same.
 
-ghost use Rattle.std.specs.Prelude.{◌≡◌, ◌≤◌, ◌<◌, ◌+◌, ℕ, [], length, take, position, slice_get};
+ghost use Rattle.std.specs.Prelude.{◌≡◌, nat_le, min, ◌≤◌, ◌<◌, ◌+◌, ℕ, [], length, take, position, slice_get};
 ghost use Rattle.std.specs.List.{position_or_len};
 ghost use Rattle.std.specs.Option.{option_copied};
 ghost use Rattle.exr_frame.specs.Judging.{has_name, slices_of, slices_of_runs, names_judged};
@@ -19,6 +19,28 @@ pub(crate) fn slice_count(runs: &[Run]) -> usize
         count += run.slices.len();
     }
     count
+}
+
+/// How many slices there are with those of runs, so many that came before included; 1,025 where there are more.
+fn more_slices(runs: &[Run], before: usize) -> usize
+    ensures { result ≡ min 1025 (before + length (slices_of_runs runs.now)) }
+{
+    let mut count = before.min(1025);
+    for run in runs {
+        count = count.saturating_add(run.slices.len()).min(1025);
+    }
+    count
+}
+
+/// Whether planes have at most 1,024 slices, which is a condition of `Layout::new`.
+pub fn has_few_slices(planes: &[Plane]) -> bool
+    ensures { result ≡ nat_le (length (slices_of planes.now)) 1024 }
+{
+    let mut count = 0;
+    for plane in planes {
+        count = more_slices(&plane.runs, count);
+    }
+    count <= 1024
 }
 
 /// The slice of a number among those of runs.

@@ -53,7 +53,12 @@ fn named(channels: &[Channel], name: &Name) -> Option<usize>
 }
 
 /// A slice against the channel of its name.
-fn against(number: u32, spot: &Spot, channel: &Channel, place: u32) -> Result<Option<u32>, MatchFault>
+fn against(
+    number: u32,
+    spot: &Spot,
+    channel: &Channel,
+    place: u32,
+) -> Result<Option<u32>, MatchFault>
     ensures { result ≡ against number spot.now channel.now place }
 {
     if !same_kind(channel.kind, spot.kind) {
@@ -79,7 +84,11 @@ fn slice_matched(channels: &[Channel], number: u32, spot: &Spot) -> Result<Optio
 }
 
 /// The places of the slices' channels.
-fn slices_matched(alloc: Global, channels: &[Channel], spots: &[Spot]) -> Result<Vec<Option<u32>>, Refusal<MatchFault>>
+fn slices_matched(
+    alloc: Global,
+    channels: &[Channel],
+    spots: &[Spot],
+) -> Result<Vec<Option<u32>>, Refusal<MatchFault>>
     requires few { length spots.now ≤ 1024 }
     requires channels { length channels.now ≤ 1024 }
     ensures { Gives (λ places. places.items) result (slices_matched channels.now 0 spots.now) }
@@ -109,7 +118,11 @@ fn is_inside(a: Box2i, b: Box2i) -> bool
 }
 
 /// For each channel of a part, so many, the number of its slice.
-fn by_channel(alloc: Global, channels: &[Option<u32>], count: usize) -> Result<Vec<Option<u32>>, NoMemory>
+fn by_channel(
+    alloc: Global,
+    channels: &[Option<u32>],
+    count: usize,
+) -> Result<Vec<Option<u32>>, NoMemory>
     requires few { length channels.now ≤ 1024 }
     requires within { (s c : ℕ) → slice_index_or channels.now s None ≡ Some c → c < count }
     requires once { (s t c : ℕ) → slice_index_or channels.now s None ≡ Some c
@@ -127,7 +140,11 @@ fn by_channel(alloc: Global, channels: &[Option<u32>], count: usize) -> Result<V
 
 /// The plan of a layout for a part, or the first thing that differs.
 #[tactic(auto, unfolding(crate::specs::Plan::part_matched))]
-pub fn match_part(alloc: Global, layout: &Layout, header: &Header) -> Result<Plan, Refusal<MatchFault>>
+pub fn match_part(
+    alloc: Global,
+    layout: &Layout,
+    header: &Header,
+) -> Result<Plan, Refusal<MatchFault>>
     requires { IsPicture header.now }
     ensures exact { Gives (λ plan. plan.channels.items) result (part_matched layout.now header.now) }
     ensures plan { IfOk result (IsPlanOf layout.now header.now.channels) }
