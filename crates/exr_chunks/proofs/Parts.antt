@@ -1,19 +1,26 @@
 -- What is known of a part and of one of its chunks.
-use Rattle.std.proofs.Common.{◌≡◌, ℕ, zero, suc, ◌+◌, ◌*◌, ◌/◌, ◌%◌, ◌^◌, ◌<◌, ◌≤◌, true, false, refl, sym, ap, subst, ◌∙◌, arith, ℤ, ◌≤ℤ◌, List, Option, Some, None}
+use Rattle.std.proofs.Common.{◌≡◌, ℕ, zero, suc, ◌+◌, ◌*◌, ◌/◌, ◌%◌, ◌^◌, ◌<◌, ◌≤◌, true, false, refl, sym, ap, subst, ◌∙◌, arith, ℤ, pos, ◌+ℤ◌, nat_abs, ◌≤ℤ◌, List, [], ◌∷◌, Option, Some, None, IfSome, sum_by, All, ◌++◌, length, get_or, take, ap₂}
 use Rattle.std.proofs.lemmas.Nat.{row-Below, mod_below}
+use Rattle.std.proofs.Math.Nat.{mod-one, mul_comm}
 use Rattle.std.proofs.lemmas.Int.{ints}
-use Rattle.std.proofs.lemmas.List.Elements.{All-same}
+use Rattle.std.proofs.lemmas.List.{take_more}
+use Rattle.std.proofs.lemmas.List.Elements.{All-same, All-head, All-tail, All-push}
+use Rattle.std.proofs.lemmas.List.Sums.{sum_by-cons, sum_by_push}
 use Rattle.exr_base.specs.declared.shape.Box2i.{Box2i}
 use Rattle.exr_base.specs.declared.channel.Channel.{Channel}
+use Rattle.exr_base.specs.declared.channel.Kind.{Kind}
+use Rattle.exr_base.specs.declared.channel.Kind.TheVariants.{Uint, Half, Float}
 use Rattle.exr_base.specs.declared.method.Method.{Method}
 use Rattle.exr_base.specs.declared.method.Method.TheVariants.{No, Rle, Zips, Zip, Piz, Pxr24, B44, B44a, Dwaa, Dwab}
 use Rattle.exr_base.specs.Method.{lines_of}
-use Rattle.exr_base.specs.Sampling.{span_of}
-use Rattle.exr_base.specs.Shape.{width_of, height_of, IsSide, IsRegion, IsSampled, IsShape}
+use Rattle.exr_base.specs.Channel.{bytes_of}
+use Rattle.exr_base.specs.Sampling.{multiples_among, span_of}
+use Rattle.exr_base.specs.Shape.{width_of, height_of, channel_bytes_of, raw_size_of, IsSide, IsRegion, IsSampled, IsShape}
 use Rattle.exr_chunks.specs.declared.part.Part.{Part}
 use Rattle.exr_chunks.specs.declared.place.Place.TheVariants.{Line, Tile}
 use Rattle.exr_chunks.specs.Heads.{Header, Tiles, AreTiles, IsPicture, is_deep, pieces, columns_of, rows_of, chunk_width, chunk_height, chunk_count_of}
-use Rattle.exr_chunks.specs.Part.{without_attributes, header_of, IsPart}
+use Rattle.exr_base.proofs.RawSize.{by_channels}
+use Rattle.exr_chunks.specs.Part.{without_attributes, header_of, IsPixel, IsPart}
 use Rattle.exr_chunks.specs.Region.{across_of, down_of, start_of, end_of, region_of, chunk_bytes_of, place_among, place_of}
 use Rattle.exr_chunks.specs.Sizes.{IsMeasured}
 use Rattle.exr_chunks.proofs.Measured.{bare_measured}
@@ -152,7 +159,54 @@ pub table_is : (p : Part) (i a b : ℕ) (r : Box2i) → r ≡ region_of (header_
 unfolding chunk_bytes_of header_of
 table_is p i a b r is deep ea eb = rw (deep, ea, eb, is) refl
 
-pub flat_is : (p : Part) (i n : ℕ) (cs : List Channel) (r : Box2i) → r ≡ region_of (header_of p) i → is_deep p.kind ≡ false → cs ≡ p.channels.items → n ≡ Rattle.exr_base.specs.Shape.raw_size_of cs r → n ≡ chunk_bytes_of (header_of p) i
+-- a product of a sum
+add_mul : (a b n : ℕ) → (a + b) * n ≡ a * n + b * n
+add_mul a b n = omega arith
+
+-- each channel has a sample at each of some places
+one_each : (from : ℤ) (n : ℕ) → multiples_among 1 from n ≡ n
+unfolding multiples_among
+one_each from zero = refl
+one_each from (suc n) = rw (one_each from n, mod-one (nat_abs (from +ℤ pos n))) (omega arith)
+
+channel_whole : (r : Box2i) (c : Channel) → c.xs ≡ 1 → c.ys ≡ 1 → channel_bytes_of r c ≡ bytes_of c.kind * (width_of r * height_of r)
+channel_whole r c x y =
+    rw (x, y, one_each r.x0 (width_of r), one_each r.y0 (height_of r)) (mul_comm (width_of r * height_of r) (bytes_of c.kind))
+
+channels_whole : (r : Box2i) (cs : List Channel) → All (λ c. (c.xs ≡ 1) × (c.ys ≡ 1)) cs → sum_by (channel_bytes_of r) cs ≡ sum_by (λ c. bytes_of c.kind) cs * (width_of r * height_of r)
+channels_whole r [] h = omega arith
+channels_whole r (c ∷ cs) h =
+    let here = All-head (λ (c : Channel). (c.xs ≡ 1) × (c.ys ≡ 1)) c cs h in
+    let one = channel_whole r c here.0 here.1 in
+    let rest = channels_whole r cs (All-tail (λ (c : Channel). (c.xs ≡ 1) × (c.ys ≡ 1)) c cs h) in
+    let raw = sum_by-cons (channel_bytes_of r) c cs in
+    let bytes = sum_by-cons (λ (c : Channel). bytes_of c.kind) c cs in
+    let area : ℕ = width_of r * height_of r in
+    let scaled : sum_by (λ (c : Channel). bytes_of c.kind) (c ∷ cs) * area ≡ (bytes_of c.kind + sum_by (λ (c : Channel). bytes_of c.kind) cs) * area = ap (λ n. n * area) bytes in
+    raw ∙ ap₂ (λ (k l : ℕ). k + l) one rest ∙ sym (scaled ∙ add_mul (bytes_of c.kind) (sum_by (λ (c : Channel). bytes_of c.kind) cs) area)
+
+pub kind_small : (k : Kind) → bytes_of k ≤ 4
+kind_small Uint = omega arith
+kind_small Half = omega arith
+kind_small Float = omega arith
+
+-- one channel more
+pub pixel_more : (cs : List Channel) (i n b : ℕ) (c : Channel) → i < length cs → c ≡ get_or cs i c → IsPixel (take i cs) n → c.xs ≡ 1 → c.ys ≡ 1 → b ≡ bytes_of c.kind → IsPixel (take (i + 1) cs) (n + b)
+pixel_more cs i n b c within read so_far x y bytes =
+    let more : take (i + 1) cs ≡ take i cs ++ c ∷ [] = take_more cs i c within ∙ ap (λ (d : Channel). take i cs ++ d ∷ []) (sym read) in
+    subst (λ ds. IsPixel ds (n + b)) (sym more) (record {
+      whole = All-push (λ (d : Channel). (d.xs ≡ 1) × (d.ys ≡ 1)) (take i cs) c so_far.whole (x, y);
+      sum = ap₂ (λ (k l : ℕ). k + l) so_far.sum bytes ∙ sym (sum_by_push (λ (d : Channel). bytes_of d.kind) (take i cs) c);
+    })
+
+pub pixels_are : (p : Part) (i n a b : ℕ) (r : Box2i) → r ≡ region_of (header_of p) i → is_deep p.kind ≡ false → IsPixel p.channels.items n → a ≡ width_of r → b ≡ height_of r → n * (a * b) ≡ chunk_bytes_of (header_of p) i
+unfolding chunk_bytes_of header_of
+pixels_are p i n a b r is flat pixel ea eb =
+    let sum = by_channels r p.channels.items ∙ channels_whole r p.channels.items pixel.whole in
+    let whole : n * (a * b) ≡ raw_size_of p.channels.items r = rw (pixel.sum, ea, eb) (sym sum) in
+    rw (flat, sym is) whole
+
+pub flat_is : (p : Part) (i n : ℕ) (cs : List Channel) (r : Box2i) → r ≡ region_of (header_of p) i → is_deep p.kind ≡ false → cs ≡ p.channels.items → n ≡ raw_size_of cs r → n ≡ chunk_bytes_of (header_of p) i
 unfolding chunk_bytes_of header_of
 flat_is p i n cs r is flat same e = rw (flat, e, same, is) refl
 
@@ -200,12 +254,13 @@ unfolding header_of
 header_is h p a b c d e f = rw (a, b, c, d, e, f) refl
 
 pub part_is : (h : Header) (p : Part) → IsPicture h → IsMeasured h → header_of p ≡ without_attributes h → p.columns ≡ chunk_width h → p.rows ≡ chunk_height h → p.across ≡ across_of h → p.down ≡ down_of h → p.count ≡ chunk_count_of h
-    → p.first + chunk_count_of h ≤ 2 ^ 20 → IsPart p
-part_is h p picture measured e columns rows across down count few = record {
+    → IfSome p.pixel (IsPixel p.channels.items) → p.first + chunk_count_of h ≤ 2 ^ 20 → IsPart p
+part_is h p picture measured e columns rows across down count pixel few = record {
   picture = subst IsPicture (sym e) (bare_picture h picture);
   measured = subst IsMeasured (sym e) (bare_measured h measured);
   columns = columns ∙ sym (ap chunk_width e);
   rows = rows ∙ sym (ap chunk_height e);
+  pixel = pixel;
   across = across ∙ sym (ap across_of e);
   down = down ∙ sym (ap down_of e);
   count = count ∙ sym (bare_count h) ∙ sym (ap chunk_count_of e);

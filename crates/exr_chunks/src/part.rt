@@ -1,9 +1,9 @@
 //! A part as a geometry keeps it.
 
-ghost use Rattle.std.specs.Prelude.{◌≡◌, ◌≤◌, ◌+◌, ◌^◌, IfOk};
+ghost use Rattle.std.specs.Prelude.{◌≡◌, ◌≤◌, ◌+◌, ◌^◌, length, IfOk, IfSome};
 ghost use Rattle.exr_base.specs.Shape.{IsSide, IsSampled};
 ghost use Rattle.exr_chunks.specs.Heads.{chunk_width, chunk_height, chunk_count_of, IsPicture};
-ghost use Rattle.exr_chunks.specs.Part.{without_attributes, header_of, IsPart};
+ghost use Rattle.exr_chunks.specs.Part.{without_attributes, header_of, IsPixel, IsPart};
 ghost use Rattle.exr_chunks.specs.Sizes.{IsMeasured};
 
 use crate::sides::{pieces, span};
@@ -23,6 +23,8 @@ pub(crate) struct Part {
     /// The columns and the lines of a chunk that is not cut.
     pub columns: u32,
     pub rows: u32,
+    /// The bytes of a pixel, where each channel has a sample at each.
+    pub pixel: Option<u64>,
     /// How many chunks stand side by side, how many such rows there are, and how many chunks that makes.
     pub across: u32,
     pub down: u32,
@@ -46,6 +48,21 @@ fn copied(alloc: Global, channels: &[Channel]) -> Result<Vec<Channel>, NoMemory>
         })?;
     }
     Ok(copies)
+}
+
+/// The bytes of a pixel, where each channel has a sample at each.
+fn pixel(channels: &[Channel]) -> Option<u64>
+    requires { length channels.now ≤ 1024 }
+    ensures { IfSome result (IsPixel channels.now) }
+{
+    let mut bytes = 0;
+    for channel in channels {
+        if channel.xs != 1 || channel.ys != 1 {
+            return None;
+        }
+        bytes += channel.kind.bytes() as u64;
+    }
+    Some(bytes)
 }
 
 /// The columns of a chunk that is not cut.
@@ -98,6 +115,7 @@ impl Part {
             tiles: header.tiles(),
             columns,
             rows,
+            pixel: pixel(header.channels()),
             across,
             down,
             count: across * down,

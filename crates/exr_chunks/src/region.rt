@@ -31,7 +31,8 @@ impl Part {
         }
     }
 
-    /// The raw bytes of a chunk, of a deep one those of its count table.
+    /// The raw bytes of a chunk, of a deep one those of its count table. Only where some channel of a part in lines lacks a
+    /// sample at some pixel does that take a look at each channel.
     pub fn raw_size(&self, index: u32) -> u64
         requires part { IsPart self.now }
         requires within { index < self.now.count }
@@ -39,10 +40,13 @@ impl Part {
         ensures small { result ≤ 2 ^ 26 }
     {
         let region = self.region(index);
+        let columns = u64::from(span(region.x0, region.x1));
+        let rows = u64::from(span(region.y0, region.y1));
         if self.kind.is_deep() {
-            let columns = u64::from(span(region.x0, region.x1));
-            let rows = u64::from(span(region.y0, region.y1));
             return 4 * (columns * rows);
+        }
+        if let Some(bytes) = self.pixel {
+            return bytes * (columns * rows);
         }
         let shape = Shape {
             channels: self.channels.as_slice(),
