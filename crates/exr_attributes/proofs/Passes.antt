@@ -1,13 +1,16 @@
 -- Names that stand twice: of a list in order, of a list that grows, and of a pass over a header.
-use Rattle.std.proofs.Common.{◌≡◌, ℕ, ◌+◌, ◌-◌, ◌^◌, ◌<◌, ◌≤◌, Bool, true, false, List, [], ◌∷◌, ◌++◌, length, get_or, take, map, Some, None, Ok, Err, Less, IsPermutation, Bor, refl, sym, ap, ap₂, subst, ◌∙◌, inl, inr, arith}
+use Rattle.std.proofs.Common.{◌≡◌, ℕ, ◌+◌, ◌-◌, ◌^◌, ◌<◌, ◌≤◌, Bool, true, false, List, [], ◌∷◌, ◌++◌, length, get_or, take, map, Some, None, Ok, Err, Less, IsPermutation, refl, sym, ap, ap₂, subst, true≢false, ◌∙◌, inl, inr, arith}
 use Rattle.std.specs.Prelude.{Option}
 use Rattle.std.specs.List.{AllByRecursion, IsDistinct}
+use Rattle.std.specs.List.Sorted.{IsStrictlySortedBy}
 use Rattle.std.specs.Ordering.{nat_cmp, eq_by_cmp}
-use Rattle.std.specs.Cmp.Lexicographic.{slice_cmp}
+use Rattle.std.specs.Cmp.{nat_cmp_is}
+use Rattle.std.specs.Str.{bytes_eq}
 use Rattle.std.proofs.lemmas.Bool.{cases_lt}
-use Rattle.std.proofs.lemmas.Cmp.{nat_list_cmp_total}
-use Rattle.std.proofs.lemmas.List.{get_or-map, length-map, map_push, get_or_default, take_more, take-append-le, take_all, length_push, get_or_push, get_or_append_left}
-use Rattle.std.proofs.lemmas.List.Sorted.{IsPermutation-map, IsPermutation-sym}
+use Rattle.std.proofs.lemmas.Cmp.{nat_cmp_total, eq_by_cmp_equiv}
+use Rattle.std.proofs.lemmas.Slice.Eq.{bytes_eq-Decides}
+use Rattle.std.proofs.lemmas.List.{map_push, get_or_default, take_more, take-append-le, take_all, length_push, get_or_push, get_or_append_left}
+use Rattle.std.proofs.lemmas.List.Sorted.{IsPermutation-sym}
 use Rattle.std.proofs.lemmas.Map.Keys.{sorted_from_all_adjacent, IsDistinct-from_sorted, IsDistinct-head, IsDistinct-tail, IsDistinct-IsPermutation}
 use Rattle.exr_base.specs.Cursor.{Position}
 use Rattle.exr_base.specs.Name.{IsName}
@@ -18,58 +21,57 @@ use Rattle.exr_attributes.specs.declared.attribute.Entry.{Entry}
 use Rattle.exr_attributes.specs.Entry.{is_named, has_name, AreEntries}
 use Rattle.exr_attributes.specs.Spelling.{HasSize, AreSized, AreAttributes}
 use Rattle.exr_attributes.specs.Reading.{next_at, entries_at, header_at, past_of}
+use Rattle.exr_attributes.specs.Number.{name_number}
 use Rattle.exr_attributes.specs.Pass.{AreDistinct, AreRising, AreRead, IsSecond, IsFirstSecond, ended_by, IsPass}
 use Rattle.exr_attributes.proofs.Entries.{neither, bytes_eq-comm, has_name-push, has_name-push_false}
-use Rattle.exr_attributes.proofs.Heads.{is_eq-slice_cmp, goes_on, repeats, closes, fails, runs_out}
+use Rattle.exr_attributes.proofs.Heads.{goes_on, repeats, closes, fails, runs_out}
 
--- ---- names in order
+-- ---- names told apart by their numbers
 
-abbrev pub Key : Type 0
-Key = Bor (List ℕ)
+abbrev pub numbers_of : List Entry → List ℕ
+numbers_of es = map (λ e. name_number e.name) es
 
-abbrev pub texts : List Key → List (List ℕ)
-texts ks = map (λ k. k.now) ks
+abbrev same : ℕ → ℕ → Bool
+same = eq_by_cmp nat_cmp
 
-abbrev pub names_of : List Entry → List (List ℕ)
-names_of es = map (λ e. e.name) es
+same_itself : (n : ℕ) → same n n ≡ true
+same_itself n = (eq_by_cmp_equiv nat_cmp_total).refl n
 
-nothing : Key
-nothing = record { ref_ptr = (0, 0); now = [] }
+same_back : (m n : ℕ) → same m n ≡ same n m
+same_back m n = (eq_by_cmp_equiv nat_cmp_total).symm m n
 
-pub rising : (ks : List Key) → ((k : ℕ) (d : Key) → k + 1 < length ks → slice_cmp nat_cmp (get_or ks k d).now (get_or ks (k + 1) d).now ≡ Less) → AreRising (texts ks)
-rising ks h k within =
-    let inside : k + 1 < length ks = omega (arith, length-map ks (λ (n : Key). n.now), within) in
-    ap₂ (slice_cmp nat_cmp) (get_or-map (λ (n : Key). n.now) ks k nothing [] (omega (arith, inside))) (get_or-map (λ (n : Key). n.now) ks (k + 1) nothing [] inside) ∙ h k nothing inside
+differs : (name other : List ℕ) (b : Bool) → bytes_eq name other ≡ b → same (name_number name) (name_number other) ≡ false → b ≡ false
+differs name other false is h = refl
+differs name other true is h =
+    let equal : name ≡ other = (bytes_eq-Decides name other).0 is in
+    absurd (true≢false (sym (same_itself (name_number name)) ∙ ap (λ (n : List ℕ). same (name_number name) (name_number n)) equal ∙ h))
 
-abbrev same : List ℕ → List ℕ → Bool
-same = eq_by_cmp (slice_cmp nat_cmp)
-
-same_back : (x y : List ℕ) → same x y ≡ same y x
-same_back x y = is_eq-slice_cmp x y ∙ bytes_eq-comm x y ∙ sym (is_eq-slice_cmp y x)
-
-none_named : (name : List ℕ) (es : List Entry) → AllByRecursion (λ y. same name y ≡ false) (names_of es) → has_name name es ≡ false
+none_named : (name : List ℕ) (es : List Entry) → AllByRecursion (λ n. same (name_number name) n ≡ false) (numbers_of es) → has_name name es ≡ false
 none_named name [] h = refl
-none_named name (e ∷ es) h = rw (sym (is_eq-slice_cmp name e.name) ∙ h.0, none_named name es h.1) refl
+none_named name (e ∷ es) h =
+    rw (differs name e.name (bytes_eq name e.name) refl h.0, none_named name es h.1) refl
 
-apart : (es : List Entry) → IsDistinct same (names_of es) → AreDistinct es
+apart : (es : List Entry) → IsDistinct same (numbers_of es) → AreDistinct es
 apart [] h = tt
 apart (e ∷ es) h =
-    (none_named e.name es (IsDistinct-head same e.name (names_of es) h), apart es (IsDistinct-tail same e.name (names_of es) h))
+    (none_named e.name es (IsDistinct-head same (name_number e.name) (numbers_of es) h), apart es (IsDistinct-tail same (name_number e.name) (numbers_of es) h))
 
--- names that rise once they were put in order
-pub distinct : (es : List Entry) (old new : List Key) → texts old ≡ names_of es → IsPermutation old new → AreRising (texts new) → AreDistinct es
-distinct es old new names moved rise =
-    let up = sorted_from_all_adjacent nat_list_cmp_total (texts new) [] rise in
-    let there = IsDistinct-from_sorted (slice_cmp nat_cmp) (texts new) up in
-    let back = IsPermutation-sym (texts old) (texts new) (IsPermutation-map (λ (k : Key). k.now) old new moved) in
-    apart es (subst (IsDistinct same) names (IsDistinct-IsPermutation same same_back (texts new) (texts old) back there))
+rising : (ns : List ℕ) → AreRising ns → IsStrictlySortedBy nat_cmp ns
+rising ns h = sorted_from_all_adjacent nat_cmp_total ns 0 (λ k within. sym (nat_cmp_is (get_or ns k 0) (get_or ns (k + 1) 0) Less (h k within)))
 
--- the names of the entries so far, and of one more
-pub names_more : (ks : List Key) (es : List Entry) (i : ℕ) (n : Key) (e : Entry) → texts ks ≡ names_of (take i es) → i < length es → n.now ≡ e.name → e ≡ get_or es i e → texts (ks ++ n ∷ []) ≡ names_of (take (i + 1) es)
-names_more ks es i n e so_far within name read =
+-- numbers that rise once they were put in order
+pub distinct : (es : List Entry) (old new : List ℕ) → old ≡ numbers_of es → IsPermutation old new → AreRising new → AreDistinct es
+distinct es old new numbers moved rise =
+    let there = IsDistinct-from_sorted nat_cmp new (rising new rise) in
+    let back = IsPermutation-sym old new moved in
+    apart es (subst (IsDistinct same) numbers (IsDistinct-IsPermutation same same_back new old back there))
+
+-- the numbers of the entries so far, and of one more
+pub numbers_more : (ns : List ℕ) (es : List Entry) (i n : ℕ) (e : Entry) → ns ≡ numbers_of (take i es) → i < length es → n ≡ name_number e.name → e ≡ get_or es i e → ns ++ n ∷ [] ≡ numbers_of (take (i + 1) es)
+numbers_more ns es i n e so_far within number read =
     let more : take (i + 1) es ≡ take i es ++ e ∷ [] = take_more es i e within ∙ ap (λ (x : Entry). take i es ++ x ∷ []) (sym read) in
-    map_push (λ (k : Key). k.now) ks n ∙ ap₂ (λ (xs : List (List ℕ)) (x : List ℕ). xs ++ x ∷ []) so_far name
-    ∙ sym (map_push (λ (e : Entry). e.name) (take i es) e) ∙ ap names_of (sym more)
+    ap₂ (λ (ms : List ℕ) (m : ℕ). ms ++ m ∷ []) so_far number
+    ∙ sym (map_push (λ (e : Entry). name_number e.name) (take i es) e) ∙ ap numbers_of (sym more)
 
 -- ---- one more entry
 

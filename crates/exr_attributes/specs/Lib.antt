@@ -1,5 +1,6 @@
 pub mod Entry
 pub mod Fault
+pub mod Number
 pub mod Pass
 pub mod Reading
 pub mod Spelling

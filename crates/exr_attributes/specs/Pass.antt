@@ -1,8 +1,5 @@
 -- A pass over a header that looks at no name, and what it leaves to be said of names.
 use Rattle.std.specs.Prelude.{◌≡◌, ◌<◌, ◌+◌, ℕ, true, false, List, [], ◌∷◌, length, take, slice_index, slice_index_or, Option, Some, None, Result, Ok, Err}
-use Rattle.std.specs.declared.cmp.Ordering.TheVariants.{Less}
-use Rattle.std.specs.Ordering.{nat_cmp}
-use Rattle.std.specs.Cmp.Lexicographic.{slice_cmp}
 use Rattle.exr_base.specs.Cursor.{Position}
 use Rattle.exr_base.specs.Name.{IsName}
 use Rattle.exr_attributes.specs.declared.fault.HeaderFault.{HeaderFault}
@@ -17,10 +14,9 @@ abbrev pub AreDistinct : List Entry → Type 0
 AreDistinct [] = Unit {0}
 AreDistinct (e ∷ es) = (has_name e.name es ≡ false) × AreDistinct es
 
--- each of some names is less than the next one
-abbrev pub AreRising : List (List ℕ) → Type 0
-AreRising names =
-    (k : ℕ) → k + 1 < length names → slice_cmp nat_cmp (slice_index_or names k []) (slice_index_or names (k + 1) []) ≡ Less
+-- each of some numbers is less than the next one
+abbrev pub AreRising : List ℕ → Type 0
+AreRising numbers = (k : ℕ) → k + 1 < length numbers → slice_index numbers k < slice_index numbers (k + 1)
 
 -- names and types are names, and sizes are ints
 abbrev pub AreRead : List Entry → Type 0

@@ -1,16 +1,20 @@
 //! Whether a name stands twice among many.
 //!
-//! Names are sorted, and neighbours are compared: no choice of names makes that slow, and it takes memory for the places
-//! of the names alone. Only where one stands twice is the first such entry sought in an ordered set.
+//! Each name makes a number, and the numbers are sorted: where they all differ, so do the names, and each of them was read
+//! once, whatever their order. Only where two numbers are the same is the first entry sought whose name an earlier one
+//! has, in an ordered set. Names that are chosen to make the same number lead to that set and to nothing worse.
 
-ghost use Rattle.std.specs.Prelude.{◌≡◌, true, map, IfOk};
+ghost use Rattle.std.specs.Prelude.{◌≡◌, true, IfOk};
 ghost use Rattle.exr_attributes.specs.Pass.{AreDistinct, AreRising, IsFirstSecond};
+ghost use Rattle.exr_attributes.specs.Number.{name_number};
 
 use crate::attribute::Entry;
 use exr_base::NoMemory;
 use std::alloc::Global;
-use std::cmp::Ordering;
 use std::collections::BTreeSet;
+
+/// What a digit counts in the number of a name, for each digit behind it: odd, and with bits all over.
+const BASE: u64 = 0x9e37_79b9_7f4a_7c15;
 
 /// The first entry whose name an earlier one has.
 pub(crate) fn first_second(alloc: Global, entries: &[Entry]) -> Result<Option<usize>, NoMemory>
@@ -22,24 +26,35 @@ pub(crate) fn first_second(alloc: Global, entries: &[Entry]) -> Result<Option<us
     sought(alloc, entries)
 }
 
-/// Whether names are distinct. It answers true only where they are.
+/// Whether the names make distinct numbers. It answers true only where the names are distinct.
 fn are_distinct(alloc: Global, entries: &[Entry]) -> Result<bool, NoMemory>
     ensures { IfOk result (λ distinct. distinct ≡ true → AreDistinct entries.now) }
 {
-    let mut names = Vec::with_capacity(alloc, entries.len())?;
+    let mut numbers = Vec::with_capacity(alloc, entries.len())?;
     for entry in entries {
-        names.push(entry.name.bytes())?;
+        numbers.push(name_number(entry.name.bytes()))?;
     }
-    names.sort_unstable();
-    Ok(are_rising(names.as_slice()))
+    numbers.sort_unstable();
+    Ok(are_rising(numbers.as_slice()))
 }
 
-/// Whether each name is less than the next one.
-fn are_rising(names: &[&[u8]]) -> bool
-    ensures { result ≡ true → AreRising (map (λ n. n.now) names.now) }
+/// The number of a name: its bytes as digits, modulo 2^64.
+fn name_number(name: &[u8]) -> u64
+    ensures { result ≡ name_number name.now }
 {
-    for i in 1..names.len() {
-        if names[i - 1].cmp(names[i]) != Ordering::Less {
+    let mut number = 0_u64;
+    for digit in name {
+        number = number.wrapping_mul(BASE).wrapping_add(u64::from(*digit));
+    }
+    number
+}
+
+/// Whether each number is less than the next one.
+fn are_rising(numbers: &[u64]) -> bool
+    ensures { result ≡ true → AreRising numbers.now }
+{
+    for i in 1..numbers.len() {
+        if numbers[i - 1] >= numbers[i] {
             return false;
         }
     }

@@ -90,6 +90,24 @@ fn faults_with_their_places(rt: HostRuntime) {
     }
 }
 
+/// Attributes without bytes whose names make the same number, the closing zero, and the first of them again.
+const OF_ONE_NUMBER: &[u8] =
+    b"aiaaogaaaagadk\0t\0\0\0\0\0paoeaacedgalaa\0t\0\0\0\0\0\0iaaogaaaagadk\0t\0\0\0\0\0";
+
+#[test]
+fn names_of_one_number(rt: HostRuntime) -> Result<(), Fail> {
+    let mut bytes = OF_ONE_NUMBER.to_vec(rt.alloc())?;
+    let map = read_attributes(rt.alloc(), &mut Cursor::new(&bytes))?;
+    assert_eq!(rt; map.len(), 2);
+    // in place of the closing zero the first name begins anew
+    bytes[42] = b'a';
+    match read_attributes(rt.alloc(), &mut Cursor::new(&bytes)) {
+        Err(Refusal::Fault(found)) => assert_eq!(rt; found, HeaderFault::Twice { at: 42 }),
+        _ => assert!(rt; false, "a second one taken"),
+    }
+    Ok(())
+}
+
 #[test]
 fn a_head_of_more_than_16_mib(rt: HostRuntime) -> Result<(), Fail> {
     let mut bytes = vec![in rt.alloc(); 0u8; (1 << 24) + 1]?;
