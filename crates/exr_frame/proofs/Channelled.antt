@@ -106,26 +106,29 @@ channel_put f part plan region s c y at raw row old new is held multiple begins 
     let size = row_size f part plan region s c y is held multiple in
     let bytes = kind_bytes d.kind x.kind ch.kind in
     let in_row : (k : Byte) → IsOfChannel f.window (spots_of f.planes) region plan.channels.items c y k → IsInRow f.window (spots_of f.planes) region s y k = λ k w.
-        let there = is.slices k.slice c w.channel in
-        let same : k.slice ≡ s = cc in
-        record { named = w.named; within = w.within; slice = same; line = w.line } in
+    let there = is.slices k.slice c w.channel in
+    let same : k.slice ≡ s = cc in
+    record { named = w.named; within = w.within; slice = same; line = w.line } in
     put_again (IsInRow f.window (spots_of f.planes) region s y) (place_of f.window (spots_of f.planes)) (line_byte (spots_of f.planes) region row)
-      (IsOfChannel f.window (spots_of f.planes) region plan.channels.items c y) (place_of f.window (spots_of f.planes)) (chunk_byte part region raw (spots_of f.planes) plan.channels.items) old new
-      (λ k w.
-        let r = in_row k w in
-        let column : is_multiple x.sampling k.x ≡ true = ap (λ (t : ℕ). is_multiple (spot_at (spots_of f.planes) t).sampling k.x) (sym r.slice) ∙ w.named.column in
-        let number = before_count x.sampling region.x0 k.x region.x1 w.within.left w.within.right column in
-        let small : k.byte < bytes_of x.kind = subst (λ (t : ℕ). k.byte < bytes_of (spot_at (spots_of f.planes) t).kind) r.slice w.named.byte in
-        let n = count_before x.sampling region.x0 k.x in
-        let within : n * bytes_of x.kind + k.byte < row_bytes_of region y d = subst (λ m. n * bytes_of x.kind + k.byte < m) (sym size) (sample_small n (sample_count_of x.sampling region.x0 region.x1) k.byte (bytes_of x.kind) number small) in
-        (k, r, refl,
-         ap (λ (t : ℕ). slice_index row (count_before (spot_at (spots_of f.planes) t).sampling region.x0 k.x * bytes_of (spot_at (spots_of f.planes) t).kind + k.byte)) r.slice
-         ∙ ap (λ l. slice_index l (n * bytes_of x.kind + k.byte)) e
-         ∙ part_at raw at (row_bytes_of region y d) (n * bytes_of x.kind + k.byte) within
-         ∙ ap (λ m. slice_index raw (m + (n * bytes_of x.kind + k.byte))) begins
-         ∙ ap (slice_index raw) (grouped (row_place_of part region c y) (n * bytes_of x.kind) k.byte)
-         ∙ ap₂ (λ (u v : ℕ). slice_index raw (row_place_of part region c y + count_before u region.x0 k.x * v + k.byte)) (sym ch.columns) (sym bytes)
-         ∙ ap (λ (z : ℤ). slice_index raw (row_place_of part region c z + count_before d.xs region.x0 k.x * bytes_of d.kind + k.byte)) (sym w.line)
-         ∙ ap (λ (o : Option ℕ). byte_of part region raw (spot_at (spots_of f.planes) k.slice) o k) (sym w.channel)))
-      (λ k r. (k, record { named = r.named; within = r.within; channel = ap (λ t. get_or plan.channels.items t None) r.slice ∙ back; line = r.line }, refl))
-      p
+    (IsOfChannel f.window (spots_of f.planes) region plan.channels.items c y) (place_of f.window (spots_of f.planes)) (chunk_byte part region raw (spots_of f.planes) plan.channels.items) old new
+    (λ k w.
+    let r = in_row k w in
+    let column : is_multiple x.sampling k.x ≡ true = ap (λ (t : ℕ). is_multiple (spot_at (spots_of f.planes) t).sampling k.x) (sym r.slice) ∙ w.named.column in
+    let number = before_count x.sampling region.x0 k.x region.x1 w.within.left w.within.right column in
+    let small : k.byte < bytes_of x.kind = subst (λ (t : ℕ). k.byte < bytes_of (spot_at (spots_of f.planes) t).kind) r.slice w.named.byte in
+    let n = count_before x.sampling region.x0 k.x in
+    let within : n * bytes_of x.kind + k.byte < row_bytes_of region y d = subst (λ m. n * bytes_of x.kind + k.byte < m) (sym size) (sample_small n (sample_count_of x.sampling region.x0 region.x1) k.byte (bytes_of x.kind) number small) in (
+      k,
+      r,
+      refl,
+      ap (λ (t : ℕ). slice_index row (count_before (spot_at (spots_of f.planes) t).sampling region.x0 k.x * bytes_of (spot_at (spots_of f.planes) t).kind + k.byte)) r.slice
+          ∙ ap (λ l. slice_index l (n * bytes_of x.kind + k.byte)) e
+          ∙ part_at raw at (row_bytes_of region y d) (n * bytes_of x.kind + k.byte) within
+          ∙ ap (λ m. slice_index raw (m + (n * bytes_of x.kind + k.byte))) begins
+          ∙ ap (slice_index raw) (grouped (row_place_of part region c y) (n * bytes_of x.kind) k.byte)
+          ∙ ap₂ (λ (u v : ℕ). slice_index raw (row_place_of part region c y + count_before u region.x0 k.x * v + k.byte)) (sym ch.columns) (sym bytes)
+          ∙ ap (λ (z : ℤ). slice_index raw (row_place_of part region c z + count_before d.xs region.x0 k.x * bytes_of d.kind + k.byte)) (sym w.line)
+          ∙ ap (λ (o : Option ℕ). byte_of part region raw (spot_at (spots_of f.planes) k.slice) o k) (sym w.channel),
+    ))
+    (λ k r. (k, record { named = r.named; within = r.within; channel = ap (λ t. get_or plan.channels.items t None) r.slice ∙ back; line = r.line }, refl))
+    p

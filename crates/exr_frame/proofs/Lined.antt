@@ -27,29 +27,29 @@ pub line_more : (f : Frame) (region : Box2i) (places : List (Option ℕ)) (c : �
     → IsPut (IsOfLine f.window (spots_of f.planes) region places (c + 1) y) (place_of f.window (spots_of f.planes)) value old new
 line_more f region places c y value old mid new lawful p q =
     put_more (IsOfLine f.window (spots_of f.planes) region places c y) (IsOfChannel f.window (spots_of f.planes) region places c y) (IsOfLine f.window (spots_of f.planes) region places (c + 1) y)
-      (place_of f.window (spots_of f.planes)) value old mid new
-      (λ j k a b e.
-        let same = one_byte f j k lawful a.named b.named e in
-        let slice : j.slice ≡ k.slice = ap (λ (t : Byte). t.slice) same in
-        let channel : Some a.channel ≡ Some c = sym a.has_channel ∙ ap (λ (s : ℕ). get_or places s None) slice ∙ b.channel in
-        let number : a.channel ≡ c = cc in
-        omega (arith, a.early))
-      (λ k w. elim (cases_lt w.channel c) [
-        | inl h ↦ inl (record { named = w.named; within = w.within; channel = w.channel; has_channel = w.has_channel; early = h; line = w.line })
-        | inr h ↦ inr (record { named = w.named; within = w.within; channel = w.has_channel ∙ ap Some (omega (arith, w.early)); line = w.line })
-      ])
-      (λ k w. record { named = w.named; within = w.within; channel = w.channel; has_channel = w.has_channel; early = omega (arith, w.early); line = w.line })
-      (λ k w. record { named = w.named; within = w.within; channel = c; has_channel = w.channel; early = omega arith; line = w.line })
-      p q
+    (place_of f.window (spots_of f.planes)) value old mid new
+    (λ j k a b e.
+    let same = one_byte f j k lawful a.named b.named e in
+    let slice : j.slice ≡ k.slice = ap (λ (t : Byte). t.slice) same in
+    let channel : Some a.channel ≡ Some c = sym a.has_channel ∙ ap (λ (s : ℕ). get_or places s None) slice ∙ b.channel in
+    let number : a.channel ≡ c = cc in
+    omega (arith, a.early))
+    (λ k w. elim (cases_lt w.channel c) [
+      | inl h ↦ inl (record { named = w.named; within = w.within; channel = w.channel; has_channel = w.has_channel; early = h; line = w.line })
+      | inr h ↦ inr (record { named = w.named; within = w.within; channel = w.has_channel ∙ ap Some (omega (arith, w.early)); line = w.line })
+    ])
+    (λ k w. record { named = w.named; within = w.within; channel = w.channel; has_channel = w.has_channel; early = omega (arith, w.early); line = w.line })
+    (λ k w. record { named = w.named; within = w.within; channel = c; has_channel = w.channel; early = omega arith; line = w.line })
+    p q
 
 pub line_begun : (f : Frame) (region : Box2i) (places : List (Option ℕ)) (y : ℤ) (value : Byte → ℕ) (old : List ℕ) → IsPut (IsOfLine f.window (spots_of f.planes) region places 0 y) (place_of f.window (spots_of f.planes)) value old old
 line_begun f region places y value old = put_none (IsOfLine f.window (spots_of f.planes) region places 0 y) (place_of f.window (spots_of f.planes)) value old (λ k w. omega (arith, w.early))
 
 line_cases : (z from : ℤ) (n : ℕ) → z <ℤ (from +ℤ pos (n + 1)) → (z <ℤ (from +ℤ pos n)) ⊎ (z ≡ from +ℤ pos n)
 line_cases z from n h = elim (cases_lt (nat_abs ((from +ℤ pos (n + 1)) -ℤ z)) 2) [
-    | inl last ↦ inr (omega (arith, ints))
-    | inr before ↦ inl (omega (arith, ints))
-  ]
+  | inl last ↦ inr (omega (arith, ints))
+  | inr before ↦ inl (omega (arith, ints))
+]
 
 later : (z from : ℤ) (n : ℕ) → z <ℤ (from +ℤ pos n) → z <ℤ (from +ℤ pos (n + 1))
 later z from n h = omega (arith, ints)
@@ -67,17 +67,17 @@ pub lines_more : (f : Frame) (part : List Channel) (plan : Plan) (region : Box2i
 lines_more f part plan region n y value old mid new lawful is at p q =
     let places = plan.channels.items in
     put_more (IsOfLines f.window (spots_of f.planes) region places n) (IsOfLine f.window (spots_of f.planes) region places (length part) y) (IsOfLines f.window (spots_of f.planes) region places (n + 1))
-      (place_of f.window (spots_of f.planes)) value old mid new
-      (λ j k a b e.
-        let same = one_byte f j k lawful a.named b.named e in
-        not_before j.y y region.y0 n a.early (ap (λ (t : Byte). t.y) same ∙ b.line) at)
-      (λ k w. elim (line_cases k.y region.y0 n w.early) [
-        | inl h ↦ inl (record { named = w.named; within = w.within; channel = w.channel; has_channel = w.has_channel; early = h })
-        | inr h ↦ inr (record { named = w.named; within = w.within; channel = w.channel; has_channel = w.has_channel; early = (channel_of_slice f part plan k.slice w.channel is w.has_channel).within; line = h ∙ sym at })
-      ])
-      (λ k w. record { named = w.named; within = w.within; channel = w.channel; has_channel = w.has_channel; early = later k.y region.y0 n w.early })
-      (λ k w. record { named = w.named; within = w.within; channel = w.channel; has_channel = w.has_channel; early = at_line k.y y region.y0 n w.line at })
-      p q
+    (place_of f.window (spots_of f.planes)) value old mid new
+    (λ j k a b e.
+    let same = one_byte f j k lawful a.named b.named e in
+    not_before j.y y region.y0 n a.early (ap (λ (t : Byte). t.y) same ∙ b.line) at)
+    (λ k w. elim (line_cases k.y region.y0 n w.early) [
+      | inl h ↦ inl (record { named = w.named; within = w.within; channel = w.channel; has_channel = w.has_channel; early = h })
+      | inr h ↦ inr (record { named = w.named; within = w.within; channel = w.channel; has_channel = w.has_channel; early = (channel_of_slice f part plan k.slice w.channel is w.has_channel).within; line = h ∙ sym at })
+    ])
+    (λ k w. record { named = w.named; within = w.within; channel = w.channel; has_channel = w.has_channel; early = later k.y region.y0 n w.early })
+    (λ k w. record { named = w.named; within = w.within; channel = w.channel; has_channel = w.has_channel; early = at_line k.y y region.y0 n w.line at })
+    p q
 
 none_above : (z from : ℤ) → from ≤ℤ z → z <ℤ (from +ℤ pos 0) → ⊥
 none_above z from h k = omega (arith, ints)
@@ -93,17 +93,17 @@ pub slice_more : (f : Frame) (region : Box2i) (s n : ℕ) (y : ℤ) (value : Byt
     → IsPut (IsOfSlice f.window (spots_of f.planes) region s (n + 1)) (place_of f.window (spots_of f.planes)) value old new
 slice_more f region s n y value old mid new lawful at p q =
     put_more (IsOfSlice f.window (spots_of f.planes) region s n) (IsInRow f.window (spots_of f.planes) region s y) (IsOfSlice f.window (spots_of f.planes) region s (n + 1))
-      (place_of f.window (spots_of f.planes)) value old mid new
-      (λ j k a b e.
-        let same = one_byte f j k lawful a.named b.named e in
-        not_before j.y y region.y0 n a.early (ap (λ (t : Byte). t.y) same ∙ b.line) at)
-      (λ k w. elim (line_cases k.y region.y0 n w.early) [
-        | inl h ↦ inl (record { named = w.named; within = w.within; slice = w.slice; early = h })
-        | inr h ↦ inr (record { named = w.named; within = w.within; slice = w.slice; line = h ∙ sym at })
-      ])
-      (λ k w. record { named = w.named; within = w.within; slice = w.slice; early = later k.y region.y0 n w.early })
-      (λ k w. record { named = w.named; within = w.within; slice = w.slice; early = at_line k.y y region.y0 n w.line at })
-      p q
+    (place_of f.window (spots_of f.planes)) value old mid new
+    (λ j k a b e.
+    let same = one_byte f j k lawful a.named b.named e in
+    not_before j.y y region.y0 n a.early (ap (λ (t : Byte). t.y) same ∙ b.line) at)
+    (λ k w. elim (line_cases k.y region.y0 n w.early) [
+      | inl h ↦ inl (record { named = w.named; within = w.within; slice = w.slice; early = h })
+      | inr h ↦ inr (record { named = w.named; within = w.within; slice = w.slice; line = h ∙ sym at })
+    ])
+    (λ k w. record { named = w.named; within = w.within; slice = w.slice; early = later k.y region.y0 n w.early })
+    (λ k w. record { named = w.named; within = w.within; slice = w.slice; early = at_line k.y y region.y0 n w.line at })
+    p q
 
 pub fills_more : (f : Frame) (region : Box2i) (places : List (Option ℕ)) (s lines : ℕ) (value : Byte → ℕ) (old mid new : List ℕ) → IsLawful f → get_or places s None ≡ None
     → ((k : Byte) → IsInRegion f.window (spots_of f.planes) region k → k.y <ℤ (region.y0 +ℤ pos lines))
@@ -112,18 +112,18 @@ pub fills_more : (f : Frame) (region : Box2i) (places : List (Option ℕ)) (s li
     → IsPut (IsOfFills f.window (spots_of f.planes) region places (s + 1)) (place_of f.window (spots_of f.planes)) value old new
 fills_more f region places s lines value old mid new lawful none all p q =
     put_more (IsOfFills f.window (spots_of f.planes) region places s) (IsOfSlice f.window (spots_of f.planes) region s lines) (IsOfFills f.window (spots_of f.planes) region places (s + 1))
-      (place_of f.window (spots_of f.planes)) value old mid new
-      (λ j k a b e.
-        let same = one_byte f j k lawful a.named b.named e in
-        let slice : j.slice ≡ k.slice = ap (λ (t : Byte). t.slice) same in
-        omega (arith, a.early, b.slice))
-      (λ k w. elim (cases_lt k.slice s) [
-        | inl h ↦ inl (record { named = w.named; within = w.within; no_channel = w.no_channel; early = h })
-        | inr h ↦ inr (record { named = w.named; within = w.within; slice = omega (arith, w.early); early = all k (record { named = w.named; within = w.within }) })
-      ])
-      (λ k w. record { named = w.named; within = w.within; no_channel = w.no_channel; early = omega (arith, w.early) })
-      (λ k w. record { named = w.named; within = w.within; no_channel = ap (λ (t : ℕ). get_or places t None) w.slice ∙ none; early = omega (arith, w.slice) })
-      p q
+    (place_of f.window (spots_of f.planes)) value old mid new
+    (λ j k a b e.
+    let same = one_byte f j k lawful a.named b.named e in
+    let slice : j.slice ≡ k.slice = ap (λ (t : Byte). t.slice) same in
+    omega (arith, a.early, b.slice))
+    (λ k w. elim (cases_lt k.slice s) [
+      | inl h ↦ inl (record { named = w.named; within = w.within; no_channel = w.no_channel; early = h })
+      | inr h ↦ inr (record { named = w.named; within = w.within; slice = omega (arith, w.early); early = all k (record { named = w.named; within = w.within }) })
+    ])
+    (λ k w. record { named = w.named; within = w.within; no_channel = w.no_channel; early = omega (arith, w.early) })
+    (λ k w. record { named = w.named; within = w.within; no_channel = ap (λ (t : ℕ). get_or places t None) w.slice ∙ none; early = omega (arith, w.slice) })
+    p q
 
 -- ---- the raw bytes of a line
 
@@ -174,13 +174,13 @@ pub all_put : (f : Frame) (part : List Channel) (plan : Plan) (region : Box2i) (
 all_put f part plan region lines value old mid new lawful is all p q =
     let places = plan.channels.items in
     put_more (IsOfLines f.window (spots_of f.planes) region places lines) (IsOfFills f.window (spots_of f.planes) region places (length (spots_of f.planes))) (IsInRegion f.window (spots_of f.planes) region)
-      (place_of f.window (spots_of f.planes)) value old mid new
-      (λ j k a b e.
-        let same = one_byte f j k lawful a.named b.named e in
-        let slice : j.slice ≡ k.slice = ap (λ (t : Byte). t.slice) same in
-        let both : Some a.channel ≡ None = sym a.has_channel ∙ ap (λ (s : ℕ). get_or places s None) slice ∙ b.no_channel in
-        cc)
-      (λ k w. held_or_not f region places lines k w (all k w) (get_or places k.slice None) refl)
-      (λ k w. record { named = w.named; within = w.within })
-      (λ k w. record { named = w.named; within = w.within })
-      p q
+    (place_of f.window (spots_of f.planes)) value old mid new
+    (λ j k a b e.
+    let same = one_byte f j k lawful a.named b.named e in
+    let slice : j.slice ≡ k.slice = ap (λ (t : Byte). t.slice) same in
+    let both : Some a.channel ≡ None = sym a.has_channel ∙ ap (λ (s : ℕ). get_or places s None) slice ∙ b.no_channel in
+    cc)
+    (λ k w. held_or_not f region places lines k w (all k w) (get_or places k.slice None) refl)
+    (λ k w. record { named = w.named; within = w.within })
+    (λ k w. record { named = w.named; within = w.within })
+    p q

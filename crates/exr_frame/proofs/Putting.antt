@@ -50,14 +50,14 @@ pub record IsOfSample (i size : ℕ) (k : ℕ × ℕ) : Type 0 where
 pub row_more : (at stride size i : ℕ) (value : ℕ × ℕ → ℕ) (old mid new : List ℕ) → size ≤ stride → IsPut (IsOfRow i size) (row_place at stride) value old mid → IsPut (IsOfSample i size) (row_place at stride) value mid new → IsPut (IsOfRow (i + 1) size) (row_place at stride) value old new
 row_more at stride size i value old mid new fits p q =
     put_more (IsOfRow i size) (IsOfSample i size) (IsOfRow (i + 1) size) (row_place at stride) value old mid new
-      (λ j k a b e. row_apart at stride size j k i fits a.sample a.byte b.sample e)
-      (λ k w. elim (cases_lt k.0 i) [
-        | inl h ↦ inl (record { sample = h; byte = w.byte })
-        | inr h ↦ inr (record { sample = omega (arith, w.sample); byte = w.byte })
-      ])
-      (λ k w. record { sample = omega (arith, w.sample); byte = w.byte })
-      (λ k w. record { sample = omega (arith, w.sample); byte = w.byte })
-      p q
+    (λ j k a b e. row_apart at stride size j k i fits a.sample a.byte b.sample e)
+    (λ k w. elim (cases_lt k.0 i) [
+      | inl h ↦ inl (record { sample = h; byte = w.byte })
+      | inr h ↦ inr (record { sample = omega (arith, w.sample); byte = w.byte })
+    ])
+    (λ k w. record { sample = omega (arith, w.sample); byte = w.byte })
+    (λ k w. record { sample = omega (arith, w.sample); byte = w.byte })
+    p q
 
 pub row_none : (at stride size : ℕ) (value : ℕ × ℕ → ℕ) (l : List ℕ) → IsPut (IsOfRow 0 size) (row_place at stride) value l l
 row_none at stride size value l = put_none (IsOfRow 0 size) (row_place at stride) value l (λ k w. omega (arith, w.sample))
@@ -97,7 +97,7 @@ sample_of_two at stride i a b value l h va vb =
     let l1 = set l (at + i * stride) a in
     let n1 = length-set l (at + i * stride) a in
     byte_more at stride i 1 (at + i * stride + 1) b value l l1 refl (omega arith) vb
-      (byte_more at stride i 0 (at + i * stride) a value l l (omega arith) (omega arith) va (sample_none at stride i value l))
+    (byte_more at stride i 0 (at + i * stride) a value l l (omega arith) (omega arith) va (sample_none at stride i value l))
 
 pub sample_of_four : (at stride i a b c d : ℕ) (value : ℕ × ℕ → ℕ) (l : List ℕ) → at + i * stride + 4 ≤ length l → a ≡ value (i, 0) → b ≡ value (i, 1) → c ≡ value (i, 2) → d ≡ value (i, 3)
     → IsPut (IsOfSample i 4) (row_place at stride) value l (set (set (set (set l (at + i * stride) a) (at + i * stride + 1) b) (at + i * stride + 2) c) (at + i * stride + 3) d)
@@ -109,9 +109,9 @@ sample_of_four at stride i a b c d value l h va vb vc vd =
     let n2 = length-set l1 (at + i * stride + 1) b in
     let n3 = length-set l2 (at + i * stride + 2) c in
     byte_more at stride i 3 (at + i * stride + 3) d value l l3 refl (omega arith) vd
-      (byte_more at stride i 2 (at + i * stride + 2) c value l l2 refl (omega arith) vc
-        (byte_more at stride i 1 (at + i * stride + 1) b value l l1 refl (omega arith) vb
-          (byte_more at stride i 0 (at + i * stride) a value l l (omega arith) (omega arith) va (sample_none at stride i value l))))
+    (byte_more at stride i 2 (at + i * stride + 2) c value l l2 refl (omega arith) vc
+    (byte_more at stride i 1 (at + i * stride + 1) b value l l1 refl (omega arith) vb
+    (byte_more at stride i 0 (at + i * stride) a value l l (omega arith) (omega arith) va (sample_none at stride i value l))))
 
 -- ---- a whole row at once
 
@@ -120,13 +120,13 @@ pub row_copied : (at samples size : ℕ) (from old new : List ℕ) → 0 < size 
 row_copied at samples size from old new some len room is =
     let front = length-take-le at old (omega arith) in
     let inside : (n : ℕ) → n < length from → slice_index new (at + n) ≡ slice_index from n = λ n h.
-        ap (λ l. slice_index l (at + n)) is
-        ∙ get_or-append_right (take at old) (from ++ drop (at + length from) old) at (at + n) 0 front (omega arith)
-        ∙ ap (slice_index (from ++ drop (at + length from) old)) (omega arith)
-        ∙ get_or_append_left from (drop (at + length from) old) 0 n h in
+    ap (λ l. slice_index l (at + n)) is
+    ∙ get_or-append_right (take at old) (from ++ drop (at + length from) old) at (at + n) 0 front (omega arith)
+    ∙ ap (slice_index (from ++ drop (at + length from) old)) (omega arith)
+    ∙ get_or_append_left from (drop (at + length from) old) 0 n h in
     let row_within : (k : ℕ × ℕ) → IsOfRow samples size k → k.0 * size + k.1 < length from = λ k w.
-        let p : (k.0 + 1) * size ≤ samples * size = mul-le (k.0 + 1) size samples size (omega (arith, w.sample)) (omega arith) in
-        omega (arith, w.byte) in
+    let p : (k.0 + 1) * size ≤ samples * size = mul-le (k.0 + 1) size samples size (omega (arith, w.sample)) (omega arith) in
+    omega (arith, w.byte) in
     record {
       put = λ k w. let e : row_place at size k ≡ at + (k.0 * size + k.1) = omega arith in ap (slice_index new) e ∙ inside (k.0 * size + k.1) (row_within k w);
       others = λ j free. elim (cases_lt j at) [

@@ -260,7 +260,7 @@ numbers_fit f region s y low high x n line column frame lawful is_line ex el eh 
     let n' : n ≡ sample_count_of (spot_at (spots_of f.planes) s).sampling (low_of f.window region) (high_of f.window region) = en ∙ ap₂ (sample_count_of x.sampling) el eh ∙ ap (λ (t : Spot). sample_count_of t.sampling (low_of f.window region) (high_of f.window region)) ex in
     let fits = first_fits f region s y frame lawful is_line le' (subst (λ m. 0 < m) n' some) in
     let same : place_behind x line column ≡ first_place f s y (low_of f.window region) =
-        ap₂ (place_behind x) e (c ∙ ap (count_before x.sampling f.window.x0) el) ∙ ap (λ (t : Spot). place_behind t (count_before t.row_sampling f.window.y0 y) (count_before t.sampling f.window.x0 (low_of f.window region))) ex in
+    ap₂ (place_behind x) e (c ∙ ap (count_before x.sampling f.window.x0) el) ∙ ap (λ (t : Spot). place_behind t (count_before t.row_sampling f.window.y0 y) (count_before t.sampling f.window.x0 (low_of f.window region))) ex in
     subst (λ m. m < 2 ^ 64) (sym same) fits
 
 last_room : (a n stride b buffer : ℕ) → 0 < n → 0 < b → a + (n - 1) * stride + (b - 1) < buffer → a + (n - 1) * stride + b ≤ buffer
@@ -275,7 +275,7 @@ strip_is f region s y low high x n line column at skip frame lawful is_line ex e
     let le' : low_of f.window region ≤ℤ high_of f.window region = subst (λ (z : ℤ). z ≤ℤ high_of f.window region) el (subst (λ (z : ℤ). low ≤ℤ z) eh le) in
     let n' : n ≡ sample_count_of t.sampling (low_of f.window region) (high_of f.window region) = en ∙ ap₂ (sample_count_of x.sampling) el eh ∙ ap (λ (t : Spot). sample_count_of t.sampling (low_of f.window region) (high_of f.window region)) ex in
     let at' : at ≡ first_place f s y (low_of f.window region) =
-        ea ∙ ap₂ (place_behind x) e (c ∙ ap (count_before x.sampling f.window.x0) el) ∙ ap (λ (t : Spot). place_behind t (count_before t.row_sampling f.window.y0 y) (count_before t.sampling f.window.x0 (low_of f.window region))) ex in
+    ea ∙ ap₂ (place_behind x) e (c ∙ ap (count_before x.sampling f.window.x0) el) ∙ ap (λ (t : Spot). place_behind t (count_before t.row_sampling f.window.y0 y) (count_before t.sampling f.window.x0 (low_of f.window region))) ex in
     let skip' : skip ≡ count_before t.sampling region.x0 (low_of f.window region) = es ∙ ap (count_before x.sampling region.x0) el ∙ ap (λ (t : Spot). count_before t.sampling region.x0 (low_of f.window region)) ex in
     let part = bytes_some t in
     let w = within_of f region s y (n - 1) (bytes_of t.kind - 1) lawful (found f region s y (n - 1) (bytes_of t.kind - 1) is_line le' (omega (arith, n')) (omega arith)) in

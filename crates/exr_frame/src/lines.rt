@@ -35,7 +35,16 @@ fn row_bytes(channel: &Channel, region: Box2i, y: i32) -> usize
 }
 
 /// Puts the samples that a channel has on a line, where the layout has a slice for it.
-fn put_channel(layout: &Layout, plan: &Plan, shape: &Shape, c: usize, y: i32, at: usize, raw: &[u8], into: &mut [u8])
+fn put_channel(
+    layout: &Layout,
+    plan: &Plan,
+    shape: &Shape,
+    c: usize,
+    y: i32,
+    at: usize,
+    raw: &[u8],
+    into: &mut [u8],
+)
     requires plan { IsPlanOf layout.now shape.now.channels.now plan.now }
     requires shape { IsShape shape.now.channels.now shape.now.region }
     requires channel { c < length shape.now.channels.now }
@@ -66,7 +75,15 @@ fn put_channel(layout: &Layout, plan: &Plan, shape: &Shape, c: usize, y: i32, at
 }
 
 /// Puts the samples of a line, whose raw bytes begin at `at`, and answers where the next line's begin.
-fn put_line(layout: &Layout, plan: &Plan, shape: &Shape, y: i32, at: usize, raw: &[u8], into: &mut [u8]) -> usize
+fn put_line(
+    layout: &Layout,
+    plan: &Plan,
+    shape: &Shape,
+    y: i32,
+    at: usize,
+    raw: &[u8],
+    into: &mut [u8],
+) -> usize
     requires plan { IsPlanOf layout.now shape.now.channels.now plan.now }
     requires shape { IsShape shape.now.channels.now shape.now.region }
     requires above { shape.now.region.y0 ≤ℤ y }
@@ -76,7 +93,7 @@ fn put_line(layout: &Layout, plan: &Plan, shape: &Shape, y: i32, at: usize, raw:
     requires into { length into.old ≡ layout.now.buffer }
     ensures at { result ≡ at + line_bytes_of shape.now.channels.now shape.now.region y }
     ensures put { IsPut (IsOfLine layout.now.window (spots_of layout.now.planes) shape.now.region plan.now.channels.items
-            (length shape.now.channels.now) y)
+        (length shape.now.channels.now) y)
         (place_of layout.now.window (spots_of layout.now.planes))
         (chunk_byte shape.now.channels.now shape.now.region raw.now (spots_of layout.now.planes) plan.now.channels.items)
         into.old into.new }
@@ -96,14 +113,22 @@ fn put_lines(layout: &Layout, plan: &Plan, shape: &Shape, raw: &[u8], into: &mut
     requires raw { length raw.now ≡ raw_size_of shape.now.channels.now shape.now.region }
     requires into { length into.old ≡ layout.now.buffer }
     ensures { IsPut (IsOfLines layout.now.window (spots_of layout.now.planes) shape.now.region plan.now.channels.items
-            (height_of shape.now.region))
+        (height_of shape.now.region))
         (place_of layout.now.window (spots_of layout.now.planes))
         (chunk_byte shape.now.channels.now shape.now.region raw.now (spots_of layout.now.planes) plan.now.channels.items)
         into.old into.new }
 {
     let mut at = 0;
     for line in 0..rows_of(shape.region) {
-        at = put_line(layout, plan, shape, shape.region.y0 + line as i32, at, raw, into);
+        at = put_line(
+            layout,
+            plan,
+            shape,
+            shape.region.y0 + line as i32,
+            at,
+            raw,
+            into,
+        );
     }
 }
 
@@ -159,7 +184,7 @@ fn fill_slices(layout: &Layout, plan: &Plan, region: Box2i, into: &mut [u8])
     requires region { IsRegion region }
     requires into { length into.old ≡ layout.now.buffer }
     ensures { IsPut (IsOfFills layout.now.window (spots_of layout.now.planes) region plan.now.channels.items
-            (length (spots_of layout.now.planes)))
+        (length (spots_of layout.now.planes)))
         (place_of layout.now.window (spots_of layout.now.planes)) (filled_byte (spots_of layout.now.planes))
         into.old into.new }
 {

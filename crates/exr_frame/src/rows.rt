@@ -15,7 +15,15 @@ use crate::strip::strip_of;
 use exr_base::Box2i;
 
 /// Puts the samples of a slice on a line of a region.
-pub(crate) fn put_row(layout: &Layout, plan: &Plan, number: usize, region: Box2i, y: i32, row: &[u8], into: &mut [u8])
+pub(crate) fn put_row(
+    layout: &Layout,
+    plan: &Plan,
+    number: usize,
+    region: Box2i,
+    y: i32,
+    row: &[u8],
+    into: &mut [u8],
+)
     requires plan { plan.now.spots.items ≡ spots_of layout.now.planes }
     requires region { IsRegion region }
     requires line { IsLineOf layout.now region number y }
@@ -32,11 +40,25 @@ pub(crate) fn put_row(layout: &Layout, plan: &Plan, number: usize, region: Box2i
     let spot = &plan.spots[number];
     let size = spot.kind.bytes();
     let from = &row[strip.skip * size..(strip.skip + strip.samples) * size];
-    put_samples(into, strip.at, spot.stride as usize, spot.kind, from, strip.samples);
+    put_samples(
+        into,
+        strip.at,
+        spot.stride as usize,
+        spot.kind,
+        from,
+        strip.samples,
+    );
 }
 
 /// Puts the fill of a slice on a line of a region.
-pub(crate) fn fill_row(layout: &Layout, plan: &Plan, number: usize, region: Box2i, y: i32, into: &mut [u8])
+pub(crate) fn fill_row(
+    layout: &Layout,
+    plan: &Plan,
+    number: usize,
+    region: Box2i,
+    y: i32,
+    into: &mut [u8],
+)
     requires plan { plan.now.spots.items ≡ spots_of layout.now.planes }
     requires region { IsRegion region }
     requires line { IsLineOf layout.now region number y }
@@ -49,5 +71,12 @@ pub(crate) fn fill_row(layout: &Layout, plan: &Plan, number: usize, region: Box2
         return;
     };
     let spot = &plan.spots[number];
-    fill_samples(into, strip.at, spot.stride as usize, spot.kind, spot.fill, strip.samples);
+    fill_samples(
+        into,
+        strip.at,
+        spot.stride as usize,
+        spot.kind,
+        spot.fill,
+        strip.samples,
+    );
 }

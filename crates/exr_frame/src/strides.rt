@@ -54,7 +54,14 @@ fn put_together(into: &mut [u8], at: usize, size: usize, from: &[u8], samples: u
 }
 
 /// Samples of a kind, the first at a place and each further one a stride behind.
-pub(crate) fn put_samples(into: &mut [u8], at: usize, stride: usize, kind: Kind, from: &[u8], samples: usize)
+pub(crate) fn put_samples(
+    into: &mut [u8],
+    at: usize,
+    stride: usize,
+    kind: Kind,
+    from: &[u8],
+    samples: usize,
+)
     requires stride { bytes_of kind ≤ stride }
     requires from { length from.now ≡ samples * bytes_of kind }
     requires some { 0 < samples }
@@ -107,7 +114,14 @@ fn fill_words(into: &mut [u8], at: usize, stride: usize, fill: u32, samples: usi
 }
 
 /// The low bytes of a fill, as many as the kind has, the first at a place and each further one a stride behind.
-pub(crate) fn fill_samples(into: &mut [u8], at: usize, stride: usize, kind: Kind, fill: u32, samples: usize)
+pub(crate) fn fill_samples(
+    into: &mut [u8],
+    at: usize,
+    stride: usize,
+    kind: Kind,
+    fill: u32,
+    samples: usize,
+)
     requires stride { bytes_of kind ≤ stride }
     requires some { 0 < samples }
     requires room { at + (samples - 1) * stride + bytes_of kind ≤ length into.old }

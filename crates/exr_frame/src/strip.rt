@@ -41,7 +41,15 @@ fn place(spot: &Spot, line: u64, column: u64) -> u64
 }
 
 /// The samples of a slice on line `y` between two columns.
-fn strip_between(layout: &Layout, spot: &Spot, number: usize, region: Box2i, y: i32, low: i32, high: i32) -> Option<Strip>
+fn strip_between(
+    layout: &Layout,
+    spot: &Spot,
+    number: usize,
+    region: Box2i,
+    y: i32,
+    low: i32,
+    high: i32,
+) -> Option<Strip>
     requires spot { spot.now ≡ spot_at (spots_of layout.now.planes) number }
     requires region { IsRegion region }
     requires line { IsLineOf layout.now region number y }
@@ -65,7 +73,13 @@ fn strip_between(layout: &Layout, spot: &Spot, number: usize, region: Box2i, y: 
 }
 
 /// The samples of slice `number` on line `y` of a region.
-pub(crate) fn strip_of(layout: &Layout, plan: &Plan, number: usize, region: Box2i, y: i32) -> Option<Strip>
+pub(crate) fn strip_of(
+    layout: &Layout,
+    plan: &Plan,
+    number: usize,
+    region: Box2i,
+    y: i32,
+) -> Option<Strip>
     requires plan { plan.now.spots.items ≡ spots_of layout.now.planes }
     requires region { IsRegion region }
     requires line { IsLineOf layout.now region number y }
