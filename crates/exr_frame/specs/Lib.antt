@@ -4,3 +4,5 @@ pub mod Judging
 pub mod Near
 pub mod Place
 pub mod Plan
+pub mod Put
+pub mod Rows

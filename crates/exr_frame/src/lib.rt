@@ -6,16 +6,21 @@ mod fault;
 mod judging;
 mod law;
 mod layout;
+mod lines;
 mod names;
 mod plan;
 mod planes;
+mod rows;
 mod spot;
+mod strides;
+mod strip;
 #[cfg(test)]
 mod tests;
 
 pub use fault::{LayoutFault, MatchFault};
 pub use law::each_byte_has_its_place;
 pub use layout::Layout;
+pub use lines::scatter;
 pub use names::has_few_slices;
 pub use plan::{Plan, match_part};
 pub use planes::{Plane, Run, Slice};

@@ -1,0 +1,212 @@
+//! The samples of a chunk: its raw bytes line by line, on each line channel by channel, and the fills of the slices
+//! that no channel of the part has.
+
+ghost use Rattle.std.specs.Prelude.{◌≡◌, ◌≤◌, ◌<◌, ◌+◌, ◌≤ℤ◌, ◌-ℤ◌, ◌^◌, nat_abs, length, take, sum_by};
+ghost use Rattle.exr_base.specs.Sampling.{is_multiple};
+ghost use Rattle.exr_base.specs.Shape.{IsShape, IsRegion, IsSampled, row_bytes_of, line_bytes_of, lines_bytes_of, raw_size_of, height_of};
+ghost use Rattle.exr_frame.specs.Place.{spots_of, place_of};
+ghost use Rattle.exr_frame.specs.Plan.{channel_at, IsPlanOf};
+ghost use Rattle.exr_frame.specs.Put.{IsPut, IsInRegion, chunk_byte};
+ghost use Rattle.exr_frame.specs.Rows.{IsInRow, IsOfChannel, IsOfLine, IsOfLines, IsOfSlice, IsOfFills, filled_byte};
+
+use crate::layout::Layout;
+use crate::plan::Plan;
+use crate::rows::{fill_row, put_row};
+use exr_base::{Box2i, Channel, Shape, sample_count};
+
+fn is_multiple(sampling: u32, place: i32) -> bool
+    requires { 1 ≤ sampling }
+    ensures { result ≡ is_multiple sampling place }
+{
+    place.unsigned_abs() % sampling == 0
+}
+
+/// The bytes of a channel on a line of a region.
+fn row_bytes(channel: &Channel, region: Box2i, y: i32) -> usize
+    requires region { IsRegion region }
+    requires sampled { IsSampled channel.now }
+    ensures { result ≡ row_bytes_of region y channel.now }
+{
+    if is_multiple(channel.ys, y) {
+        sample_count(channel.xs, region.x0, region.x1) as usize * channel.kind.bytes()
+    } else {
+        0
+    }
+}
+
+/// Puts the samples that a channel has on a line, where the layout has a slice for it.
+fn put_channel(
+    layout: &Layout,
+    plan: &Plan,
+    shape: &Shape,
+    c: usize,
+    y: i32,
+    at: usize,
+    raw: &[u8],
+    into: &mut [u8],
+)
+    requires plan { IsPlanOf layout.now shape.now.channels.now plan.now }
+    requires shape { IsShape shape.now.channels.now shape.now.region }
+    requires channel { c < length shape.now.channels.now }
+    requires above { shape.now.region.y0 ≤ℤ y }
+    requires below { y ≤ℤ shape.now.region.y1 }
+    requires at { at ≡ lines_bytes_of shape.now.channels.now shape.now.region (nat_abs (y -ℤ shape.now.region.y0))
+        + sum_by (row_bytes_of shape.now.region y) (take c shape.now.channels.now) }
+    requires raw { at + row_bytes_of shape.now.region y (channel_at shape.now.channels.now c) ≤ length raw.now }
+    requires into { length into.old ≡ layout.now.buffer }
+    ensures { IsPut (IsOfChannel layout.now.window (spots_of layout.now.planes) shape.now.region plan.now.channels.items c y)
+        (place_of layout.now.window (spots_of layout.now.planes))
+        (chunk_byte shape.now.channels.now shape.now.region raw.now (spots_of layout.now.planes) plan.now.channels.items)
+        into.old into.new }
+{
+    let Some(number) = plan.slices[c] else {
+        return;
+    };
+    let window = layout.window();
+    if y < window.y0 || window.y1 < y {
+        return;
+    }
+    let channel = &shape.channels[c];
+    if !is_multiple(channel.ys, y) {
+        return;
+    }
+    let row = &raw[at..at + row_bytes(channel, shape.region, y)];
+    put_row(layout, plan, number as usize, shape.region, y, row, into);
+}
+
+/// Puts the samples of a line, whose raw bytes begin at `at`, and answers where the next line's begin.
+fn put_line(
+    layout: &Layout,
+    plan: &Plan,
+    shape: &Shape,
+    y: i32,
+    at: usize,
+    raw: &[u8],
+    into: &mut [u8],
+) -> usize
+    requires plan { IsPlanOf layout.now shape.now.channels.now plan.now }
+    requires shape { IsShape shape.now.channels.now shape.now.region }
+    requires above { shape.now.region.y0 ≤ℤ y }
+    requires below { y ≤ℤ shape.now.region.y1 }
+    requires at { at ≡ lines_bytes_of shape.now.channels.now shape.now.region (nat_abs (y -ℤ shape.now.region.y0)) }
+    requires raw { at + line_bytes_of shape.now.channels.now shape.now.region y ≤ length raw.now }
+    requires into { length into.old ≡ layout.now.buffer }
+    ensures at { result ≡ at + line_bytes_of shape.now.channels.now shape.now.region y }
+    ensures put { IsPut (IsOfLine layout.now.window (spots_of layout.now.planes) shape.now.region plan.now.channels.items
+        (length shape.now.channels.now) y)
+        (place_of layout.now.window (spots_of layout.now.planes))
+        (chunk_byte shape.now.channels.now shape.now.region raw.now (spots_of layout.now.planes) plan.now.channels.items)
+        into.old into.new }
+{
+    let mut behind = at;
+    for c in 0..shape.channels.len() {
+        put_channel(layout, plan, shape, c, y, behind, raw, into);
+        behind += row_bytes(&shape.channels[c], shape.region, y);
+    }
+    behind
+}
+
+/// Puts the samples of all lines.
+fn put_lines(layout: &Layout, plan: &Plan, shape: &Shape, raw: &[u8], into: &mut [u8])
+    requires plan { IsPlanOf layout.now shape.now.channels.now plan.now }
+    requires shape { IsShape shape.now.channels.now shape.now.region }
+    requires raw { length raw.now ≡ raw_size_of shape.now.channels.now shape.now.region }
+    requires into { length into.old ≡ layout.now.buffer }
+    ensures { IsPut (IsOfLines layout.now.window (spots_of layout.now.planes) shape.now.region plan.now.channels.items
+        (height_of shape.now.region))
+        (place_of layout.now.window (spots_of layout.now.planes))
+        (chunk_byte shape.now.channels.now shape.now.region raw.now (spots_of layout.now.planes) plan.now.channels.items)
+        into.old into.new }
+{
+    let mut at = 0;
+    for line in 0..rows_of(shape.region) {
+        at = put_line(
+            layout,
+            plan,
+            shape,
+            shape.region.y0 + line as i32,
+            at,
+            raw,
+            into,
+        );
+    }
+}
+
+/// How many lines a region has.
+fn rows_of(region: Box2i) -> usize
+    requires { IsRegion region }
+    ensures exact { result ≡ height_of region }
+    ensures small { result ≤ 2 ^ 20 }
+{
+    (i64::from(region.y1) - i64::from(region.y0) + 1) as usize
+}
+
+/// Puts the fill of a slice on one line of a region, where the slice has samples there.
+fn fill_line(layout: &Layout, plan: &Plan, number: usize, region: Box2i, y: i32, into: &mut [u8])
+    requires plan { plan.now.spots.items ≡ spots_of layout.now.planes }
+    requires slice { number < length plan.now.spots.items }
+    requires region { IsRegion region }
+    requires above { region.y0 ≤ℤ y }
+    requires below { y ≤ℤ region.y1 }
+    requires into { length into.old ≡ layout.now.buffer }
+    ensures { IsPut (IsInRow layout.now.window (spots_of layout.now.planes) region number y)
+        (place_of layout.now.window (spots_of layout.now.planes)) (filled_byte (spots_of layout.now.planes))
+        into.old into.new }
+{
+    let window = layout.window();
+    if y < window.y0 || window.y1 < y {
+        return;
+    }
+    if is_multiple(plan.spots[number].row_sampling, y) {
+        fill_row(layout, plan, number, region, y, into);
+    }
+}
+
+/// Puts the fill of a slice on all lines of a region.
+fn fill_slice(layout: &Layout, plan: &Plan, number: usize, region: Box2i, into: &mut [u8])
+    requires plan { plan.now.spots.items ≡ spots_of layout.now.planes }
+    requires slice { number < length plan.now.spots.items }
+    requires region { IsRegion region }
+    requires into { length into.old ≡ layout.now.buffer }
+    ensures { IsPut (IsOfSlice layout.now.window (spots_of layout.now.planes) region number (height_of region))
+        (place_of layout.now.window (spots_of layout.now.planes)) (filled_byte (spots_of layout.now.planes))
+        into.old into.new }
+{
+    for line in 0..rows_of(region) {
+        fill_line(layout, plan, number, region, region.y0 + line as i32, into);
+    }
+}
+
+/// Puts the fills of the slices that no channel of the part has.
+fn fill_slices(layout: &Layout, plan: &Plan, region: Box2i, into: &mut [u8])
+    requires plan { plan.now.spots.items ≡ spots_of layout.now.planes }
+    requires places { length plan.now.channels.items ≡ length (spots_of layout.now.planes) }
+    requires region { IsRegion region }
+    requires into { length into.old ≡ layout.now.buffer }
+    ensures { IsPut (IsOfFills layout.now.window (spots_of layout.now.planes) region plan.now.channels.items
+        (length (spots_of layout.now.planes)))
+        (place_of layout.now.window (spots_of layout.now.planes)) (filled_byte (spots_of layout.now.planes))
+        into.old into.new }
+{
+    for number in 0..plan.channels.len() {
+        if plan.channels[number].is_none() {
+            fill_slice(layout, plan, number, region, into);
+        }
+    }
+}
+
+/// Puts the samples of a region that lie in the window, and the fills of the slices that no channel of the part has,
+/// each in its place; no other byte is changed. `raw` are the raw bytes of the region.
+pub fn scatter(layout: &Layout, plan: &Plan, shape: &Shape, raw: &[u8], into: &mut [u8])
+    requires plan { IsPlanOf layout.now shape.now.channels.now plan.now }
+    requires shape { IsShape shape.now.channels.now shape.now.region }
+    requires raw { length raw.now ≡ raw_size_of shape.now.channels.now shape.now.region }
+    requires into { length into.old ≡ layout.now.buffer }
+    ensures { IsPut (IsInRegion layout.now.window (spots_of layout.now.planes) shape.now.region)
+        (place_of layout.now.window (spots_of layout.now.planes))
+        (chunk_byte shape.now.channels.now shape.now.region raw.now (spots_of layout.now.planes) plan.now.channels.items)
+        into.old into.new }
+{
+    put_lines(layout, plan, shape, raw, into);
+    fill_slices(layout, plan, shape.region, into);
+}
