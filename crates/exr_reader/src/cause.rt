@@ -3,8 +3,9 @@
 ghost use Rattle.std.specs.Prelude.{◌≡◌};
 ghost use Rattle.exr_reader.specs.declared.cause.ReadCause.TheVariants as cause;
 
+use exr_base::NoMemory;
 use exr_block::ChunkFault;
-use std::alloc::AllocError;
+use std::alloc::{AllocError, AllocFailed};
 use thiserror::Error;
 
 /// Why samples could not be read.
@@ -25,6 +26,22 @@ impl From<AllocError> for ReadCause {
     ghost from_gives = { λ _ e. e ≡ cause.NoMemory };
 
     fn from(_error: AllocError) -> ReadCause {
+        ReadCause::NoMemory
+    }
+}
+
+impl From<NoMemory> for ReadCause {
+    ghost from_gives = { λ _ e. e ≡ cause.NoMemory };
+
+    fn from(_error: NoMemory) -> ReadCause {
+        ReadCause::NoMemory
+    }
+}
+
+impl<X: Drop> From<AllocFailed<X>> for ReadCause {
+    ghost from_gives = { λ _ e. e ≡ cause.NoMemory };
+
+    fn from(_error: AllocFailed<X>) -> ReadCause {
         ReadCause::NoMemory
     }
 }

@@ -8,7 +8,7 @@ ghost use Rattle.exr_chunks.specs.Heads.{chunk_count_of};
 ghost use Rattle.exr_chunks.specs.Region.{header_at, region_of};
 ghost use Rattle.exr_stream.specs.Chunk.{chunk_of};
 ghost use Rattle.exr_stream.specs.Stream.{IsSameStream};
-ghost use Rattle.exr_reader.specs.Whole.{is_plain};
+ghost use Rattle.exr_reader.specs.Window.{is_flat};
 ghost use Rattle.exr_reader.specs.Reading.{HasCause};
 
 use crate::cause::ReadCause;
@@ -27,7 +27,7 @@ fn bytes_of(body: Body) -> Vec<u8>
     }
 }
 
-/// The raw data of a chunk of a plain part.
+/// The raw data of a chunk of a part that is not deep and not compressed.
 pub(crate) fn raw_data<W: World, S: Source>(
     alloc: Global,
     stream: &mut Stream<W, S>,
@@ -36,7 +36,7 @@ pub(crate) fn raw_data<W: World, S: Source>(
 ) -> Result<Vec<u8>, ReadCause>
     requires part { part < length stream.old.head.parts }
     requires index { index < chunk_count_of (header_at stream.old.head.parts part) }
-    requires plain { IsTrue (is_plain (header_at stream.old.head.parts part)) }
+    requires flat { IsTrue (is_flat (header_at stream.old.head.parts part)) }
     ensures bytes { IsTrue S.means.tells → IfOk result (λ bytes.
         chunk_of (S.means.content stream.old.source) stream.old.head stream.old.head_bytes part index ≡ Ok bytes.items) }
     ensures size { IfOk result (λ bytes. length bytes.items ≡ raw_size_of (header_at stream.old.head.parts part).channels

@@ -3,3 +3,4 @@
 mod files;
 mod runs;
 mod table;
+mod windows;

@@ -1,4 +1,3 @@
-pub mod Request
 pub mod Run
 pub mod Stops
 pub mod Texts

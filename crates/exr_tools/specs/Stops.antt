@@ -4,9 +4,11 @@ use Rattle.exr_base.specs.declared.refusal.Refusal.{Refusal}
 use Rattle.exr_base.specs.declared.refusal.Refusal.TheVariants as refusal
 use Rattle.exr_opening.specs.declared.opening.OpenFault.{OpenFault}
 use Rattle.exr_opening.specs.declared.opening.OpenFault.TheVariants as opening
+use Rattle.exr_request.specs.declared.fault.RequestStop.{RequestStop}
+use Rattle.exr_request.specs.declared.fault.RequestStop.TheVariants as stops
 use Rattle.exr_words.specs.declared.order.WordFault.{WordFault}
 use Rattle.exr_tools.specs.declared.stop.Stop.{Stop}
-use Rattle.exr_tools.specs.declared.stop.Stop.TheVariants.{NoMemory, Words, File, Read}
+use Rattle.exr_tools.specs.declared.stop.Stop.TheVariants.{NoMemory, Words, File, Read, Request, Form}
 use Rattle.exr_tools.specs.declared.stop.FileFault.TheVariants.{Head, Chunk}
 use Rattle.exr_reader.specs.declared.cause.ReadCause.{ReadCause}
 use Rattle.exr_reader.specs.declared.cause.ReadCause.TheVariants as cause
@@ -20,6 +22,15 @@ abbrev pub stop_of_opening : Refusal OpenFault → Stop
 stop_of_opening (refusal.Fault opening.Read) = Read
 stop_of_opening (refusal.Fault (opening.Head f)) = File 0 (Head f)
 stop_of_opening refusal.NoMemory = NoMemory
+
+-- of what is asked of a head
+abbrev pub stop_asked : RequestStop → Stop
+stop_asked stops.Form = Form
+stop_asked (stops.Fault fault) = Request fault
+
+abbrev pub stop_of_request : Refusal RequestStop → Stop
+stop_of_request (refusal.Fault stop) = stop_asked stop
+stop_of_request refusal.NoMemory = NoMemory
 
 -- of a part of that file
 abbrev pub stop_of_reading : ℕ → ReadCause → Stop

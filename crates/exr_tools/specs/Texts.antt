@@ -2,7 +2,7 @@
 use Rattle.std.specs.Prelude.{ℕ, List, [], ◌∷◌, ◌++◌, codes, decimal}
 use Rattle.exr_attributes.specs.Fault.{number_of as head_number_of}
 use Rattle.exr_block.specs.Fault.{number_of as chunk_number_of}
-use Rattle.exr_tools.specs.Request.{request_number_of}
+use Rattle.exr_request.specs.Fault.{request_number_of}
 use Rattle.exr_tools.specs.declared.stop.Stop.{Stop}
 use Rattle.exr_tools.specs.declared.stop.Stop.TheVariants.{NoMemory, Words, File, Read, Write, Request, Form}
 use Rattle.exr_tools.specs.declared.stop.FileFault.{FileFault}

@@ -4,10 +4,10 @@
 mod extract;
 mod header;
 mod print;
-mod request;
 mod stop;
 mod top;
 
-pub use request::RequestFault;
+pub use exr_frame::{LayoutFault, MatchFault};
+pub use exr_request::RequestFault;
 pub use stop::{FileFault, Stop, stop_line};
 pub use top::run;

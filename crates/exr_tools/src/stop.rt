@@ -2,14 +2,14 @@
 
 ghost use Rattle.std.specs.Prelude.{◌≡◌, IfOk, string_bytes};
 ghost use Rattle.exr_tools.specs.declared.stop.Stop.TheVariants as stop;
-ghost use Rattle.exr_tools.specs.Stops.{stop_of_words, stop_of_opening};
+ghost use Rattle.exr_tools.specs.Stops.{stop_of_words, stop_of_opening, stop_of_request};
 ghost use Rattle.exr_tools.specs.Texts.{status_of, file_line_of, line_of};
 
-use crate::request::RequestFault;
 use exr_attributes::HeaderFault;
 use exr_base::{NoMemory, Refusal};
 use exr_block::ChunkFault;
 use exr_opening::OpenFault;
+use exr_request::{RequestFault, RequestStop};
 use exr_words::WordFault;
 use std::alloc::{AllocError, AllocFailed, Global};
 use thiserror::Error;
@@ -137,6 +137,18 @@ impl From<Refusal<OpenFault>> for Stop {
                 file: 0,
                 fault: FileFault::Head(fault),
             },
+            Refusal::NoMemory => Stop::NoMemory,
+        }
+    }
+}
+
+impl From<Refusal<RequestStop>> for Stop {
+    ghost from_gives = { λ refusal e. e ≡ stop_of_request refusal };
+
+    fn from(refusal: Refusal<RequestStop>) -> Stop {
+        match refusal {
+            Refusal::Fault(RequestStop::Form) => Stop::Form,
+            Refusal::Fault(RequestStop::Fault(fault)) => Stop::Request(fault),
             Refusal::NoMemory => Stop::NoMemory,
         }
     }

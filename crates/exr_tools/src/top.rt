@@ -7,26 +7,27 @@ ghost use Rattle.exr_words.specs.Words.{texts_of, command_of, fault_at};
 ghost use Rattle.exr_tools.specs.declared.stop.Stop.{Stop as AnyStop};
 ghost use Rattle.exr_tools.specs.Run.{Obeys, IsDue, IsSound, HasReason, OwesRise, StopsOr, IsBeforeWriting, ByCommand, Opens, Creates, Keeps};
 
-use crate::extract::extract;
+use crate::extract::{Extraction, extract};
 use crate::header::header;
 use crate::stop::Stop;
 use exr_outside::{Files, Gate, Printer, World};
-use exr_words::{Order, read_words};
+use exr_request::Asked;
+use exr_words::{Arrangement, Order, read_words};
 use std::alloc::Global;
 use std::thread::Threads;
 
-/// Does what the words say: `header in=NAME`, or `extract in=NAME out=NAME part=NUMBER` with the keys in any order and the part
-/// left out where it is 0.
+/// Does what the words say: `header in=NAME`, or `extract in=NAME out=NAME` with any of the keys `part`, `window`, `layout`,
+/// `channels`, `pad`, `fill`, `byte` and `workers` (see `exr_words::read_words`).
 ///
 /// Each file that is opened or created is given back before the call returns. Nothing is printed before all else
-/// succeeded. The gate is passed by commands that work in threads; none does yet.
+/// succeeded. `extract` passes the gate before and after it reads each chunk; it works on the calling thread so far.
 pub fn run<R: Threads + Sync, W: World, F: Files<W>, O: Printer, G: Gate>(
     _rt: &R,
     alloc: Global,
     words: &[String],
     files: &mut F,
     out: &mut O,
-    _gate: &G,
+    gate: &G,
 ) -> Result<(), Stop>
     requires { length words.now < 2 ^ 32 }
 
@@ -83,9 +84,35 @@ pub fn run<R: Threads + Sync, W: World, F: Files<W>, O: Printer, G: Gate>(
             inputs,
             output,
             part,
+            window,
+            layout,
+            channels,
+            pad,
+            fill,
+            byte,
+            workers,
         } => {
-            let part = part.unwrap_or(0);
-            extract::<W, F, O>(alloc, files, out, inputs.first(), output.as_str(), part)
+            let extraction = Extraction {
+                asked: Asked {
+                    part: part.unwrap_or(0),
+                    window,
+                    layout: layout.unwrap_or(Arrangement::Planar),
+                    channels,
+                    pad: pad.unwrap_or(0),
+                    fill: fill.unwrap_or(0),
+                },
+                byte: byte.unwrap_or(0),
+                workers: workers.unwrap_or(1),
+            };
+            extract::<W, F, O, G>(
+                alloc,
+                files,
+                out,
+                inputs.first(),
+                output.as_str(),
+                &extraction,
+                gate,
+            )
         }
     }
 }

@@ -128,3 +128,46 @@ pub const DEEP: &[u8] = b"\
     hunkCount\0int\0\x04\0\0\0\x01\0\0\0maxSamplesPerPixel\0int\0\x04\0\0\0\xff\xff\xff\xff\0\xa9\
     \x01\0\0\0\0\0\0\0\0\0\0\x08\0\0\0\0\0\0\0\x12\0\0\0\0\0\0\0\x12\0\0\0\0\0\0\0\x01\0\0\0\x03\0\
     \0\0\x010\x040\x050\x20\x06\0?P\x06\0?`\x06\0?";
+
+/// HALF channel G and FLOAT channel Z, four by three.
+pub const HALF_AND_FLOAT: &[u8] = b"\
+    v/1\x01\x02\0\0\0channels\0chlist\0%\0\0\0G\0\x01\0\0\0\0\0\0\0\x01\0\0\0\x01\0\0\0Z\0\x02\0\0\
+    \0\0\0\0\0\x01\0\0\0\x01\0\0\0\0compression\0compression\0\x01\0\0\0\0dataWindow\0box2i\0\x10\0\
+    \0\0\0\0\0\0\0\0\0\0\x03\0\0\0\x02\0\0\0displayWindow\0box2i\0\x10\0\0\0\0\0\0\0\0\0\0\0\x03\0\
+    \0\0\x02\0\0\0lineOrder\0lineOrder\0\x01\0\0\0\0pixelAspectRatio\0float\0\x04\0\0\0\0\0\x80?scr\
+    eenWindowCenter\0v2f\0\x08\0\0\0\0\0\0\0\0\0\0\0screenWindowWidth\0float\0\x04\0\0\0\0\0\x80?\0\
+    ?\x01\0\0\0\0\0\0_\x01\0\0\0\0\0\0\x7f\x01\0\0\0\0\0\0\0\0\0\0\x18\0\0\0\0<\x01<\x02<\x03<\0\0\
+    \x80?\x10\0\x80?\x20\0\x80?0\0\x80?\x01\0\0\0\x18\0\0\0\x04<\x05<\x06<\x07<@\0\x80?P\0\x80?`\0\
+    \x80?p\0\x80?\x02\0\0\0\x18\0\0\0\x08<\x09<\x0a<\x0b<\x80\0\x80?\x90\0\x80?\xa0\0\x80?\xb0\0\
+    \x80?";
+
+/// Their planes.
+pub const HALF_AND_FLOAT_RAW: &[u8] = b"\
+    \0<\x01<\x02<\x03<\x04<\x05<\x06<\x07<\x08<\x09<\x0a<\x0b<\0\0\x80?\x10\0\x80?\x20\0\x80?0\0\
+    \x80?@\0\x80?P\0\x80?`\0\x80?p\0\x80?\x80\0\x80?\x90\0\x80?\xa0\0\x80?\xb0\0\x80?";
+
+/// One HALF channel with a sample at each second column of each second line, from (-2, -2) to (1, 1).
+pub const SAMPLED: &[u8] = b"\
+    v/1\x01\x02\0\0\0channels\0chlist\0\x13\0\0\0Y\0\x01\0\0\0\0\0\0\0\x02\0\0\0\x02\0\0\0\0compres\
+    sion\0compression\0\x01\0\0\0\0dataWindow\0box2i\0\x10\0\0\0\xfe\xff\xff\xff\xfe\xff\xff\xff\
+    \x01\0\0\0\x01\0\0\0displayWindow\0box2i\0\x10\0\0\0\xfe\xff\xff\xff\xfe\xff\xff\xff\x01\0\0\0\
+    \x01\0\0\0lineOrder\0lineOrder\0\x01\0\0\0\0pixelAspectRatio\0float\0\x04\0\0\0\0\0\x80?screenW\
+    indowCenter\0v2f\0\x08\0\0\0\0\0\0\0\0\0\0\0screenWindowWidth\0float\0\x04\0\0\0\0\0\x80?\05\
+    \x01\0\0\0\0\0\0A\x01\0\0\0\0\0\0I\x01\0\0\0\0\0\0U\x01\0\0\0\0\0\0\xfe\xff\xff\xff\x04\0\0\0\
+    \x01\0\x02\0\xff\xff\xff\xff\0\0\0\0\0\0\0\0\x04\0\0\0\x03\0\x04\0\x01\0\0\0\0\0\0\0";
+
+/// Its four samples.
+pub const SAMPLED_RAW: &[u8] = b"\
+    \x01\0\x02\0\x03\0\x04\0";
+
+/// The same, a line of G before each line of Z.
+pub const HALF_AND_FLOAT_LINES: &[u8] = b"\
+    \0<\x01<\x02<\x03<\0\0\x80?\x10\0\x80?\x20\0\x80?0\0\x80?\
+    \x04<\x05<\x06<\x07<@\0\x80?P\0\x80?`\0\x80?p\0\x80?\
+    \x08<\x09<\x0a<\x0b<\x80\0\x80?\x90\0\x80?\xa0\0\x80?\xb0\0\x80?";
+
+/// The pixels of the channels B, G and R, with two bytes of 0xee behind each.
+pub const THREE_CHANNELS_PIXELS: &[u8] = b"\
+    \0<\0@\0B\xee\xee\0<\0@\0B\xee\xee\0<\0@\0B\xee\xee\0<\0@\0B\xee\xee\
+    \0<\0@\0B\xee\xee\0<\0@\0B\xee\xee\0<\0@\0B\xee\xee\0<\0@\0B\xee\xee\
+    \0<\0@\0B\xee\xee\0<\0@\0B\xee\xee\0<\0@\0B\xee\xee\0<\0@\0B\xee\xee";

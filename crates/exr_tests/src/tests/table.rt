@@ -33,7 +33,7 @@ fn chunk(index: u32, fault: ChunkFault) -> Stop {
 }
 
 /// A file with another byte at a place.
-fn changed(alloc: Global, file: &[u8], place: usize, byte: u8) -> Result<Vec<u8>, Fail> {
+pub fn changed(alloc: Global, file: &[u8], place: usize, byte: u8) -> Result<Vec<u8>, Fail> {
     let mut changed = file.to_vec(alloc)?;
     *changed.get_mut(place).ok_or("a place")? = byte;
     Ok(changed)
@@ -48,10 +48,9 @@ fn files_and_what_is_written_of_them(rt: HostRuntime) -> Result<(), Fail> {
     let long_names = changed(alloc, ONE_SAMPLE, 5, 4)?;
     let unknown_bit = changed(alloc, ONE_SAMPLE, 5, 1)?;
     let run_lengths = changed(alloc, ONE_SAMPLE, 75, 1)?;
-    let float = changed(alloc, ONE_SAMPLE, 30, 2)?;
     let falling_line = changed(alloc, ONE_SAMPLE, 177, 1)?;
     // the file, the stop, what is written, what is printed
-    let rows: [(&[u8], Option<Stop>, Option<&[u8]>, &str); 14] = [
+    let rows: [(&[u8], Option<Stop>, Option<&[u8]>, &str); 13] = [
         (ONE_SAMPLE, None, Some(ONE_SAMPLE_RAW), "extract bytes 2\n"),
         (
             THREE_CHANNELS,
@@ -76,7 +75,6 @@ fn files_and_what_is_written_of_them(rt: HostRuntime) -> Result<(), Fail> {
             "extract bytes 2\n",
         ),
         (&longer, None, Some(ONE_SAMPLE_RAW), "extract bytes 2\n"),
-        (&float, Some(Stop::Form), None, ""),
         (&run_lengths, Some(Stop::Form), None, ""),
         (DEEP, Some(Stop::Form), None, ""),
         (
@@ -110,7 +108,9 @@ fn faults_of_chunks(rt: HostRuntime) -> Result<(), Fail> {
     let smaller = changed(alloc, ONE_SAMPLE, 289, 1)?;
     let other_line = changed(alloc, ONE_SAMPLE, 285, 1)?;
     let other_level = changed(alloc, TILES, 385, 1)?;
-    let rows: [(&[u8], Stop); 11] = [
+    let float = changed(alloc, ONE_SAMPLE, 30, 2)?;
+    let rows: [(&[u8], Stop); 12] = [
+        (&float, chunk(0, ChunkFault::WrongSize)),
         (&unwritten, chunk(0, ChunkFault::Unwritten)),
         (&into_the_head, chunk(0, ChunkFault::WrongPlace)),
         (&past_the_end, chunk(0, ChunkFault::Outside)),
@@ -253,7 +253,7 @@ fn words_that_are_refused(rt: HostRuntime) -> Result<(), Fail> {
     let alloc = rt.alloc();
     let word = |position| Stop::Words { position };
     // the words, and the stop; a name that is not there is a read fault
-    let rows: [(&[&str], Stop); 15] = [
+    let rows: [(&[&str], Stop); 18] = [
         (&[], word(0)),
         (&["extract"], word(1)),
         (&["extract", "in=a"], word(2)),
@@ -264,6 +264,9 @@ fn words_that_are_refused(rt: HostRuntime) -> Result<(), Fail> {
         (&["extract", "in=a", "out=b", "out=b"], word(3)),
         (&["extract", "in=a", "out=b", "part="], word(3)),
         (&["extract", "part=4294967296", "in=a", "out=b"], word(1)),
+        (&["extract", "in=a", "out=b", "workers=0"], word(3)),
+        (&["extract", "window=0,0,0", "in=a", "out=b"], word(1)),
+        (&["extract", "in=a", "pad=65536", "out=b"], word(2)),
         (&["Extract", "in=a", "out=b"], word(0)),
         (&["--help"], word(0)),
         (&["in=a", "out=b"], word(0)),

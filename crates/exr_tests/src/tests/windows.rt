@@ -1,0 +1,130 @@
+//! Windows, layouts, channels, padding and fills: what `extract` writes of them, and what it refuses.
+
+use super::files::*;
+use super::runs::{NONE, outcome_of};
+use super::table::changed;
+use exr_tools::{LayoutFault, MatchFault, RequestFault, Stop};
+use std::alloc::Global;
+use std::test::Fail;
+
+/// The words of an extraction, with more behind them.
+fn extract_with<'a>(alloc: Global, more: &[&'a str]) -> Result<Vec<&'a str>, Fail> {
+    let mut words = Vec::new(alloc);
+    words.extend_from_slice(&["extract", "in=a", "out=b"])?;
+    words.extend_from_slice(more)?;
+    Ok(words)
+}
+
+#[test]
+fn what_is_asked_for_is_written(rt: HostRuntime) -> Result<(), Fail> {
+    let alloc = rt.alloc();
+    let two = changed(alloc, ONE_SAMPLE, 294, 0x40)?;
+    let rows: [(&[u8], &[&str], &[u8]); 12] = [
+        (
+            THREE_CHANNELS,
+            &["layout=pixels", "pad=2", "byte=238"],
+            THREE_CHANNELS_PIXELS,
+        ),
+        (THREE_CHANNELS, &["channels=B,G,R"], THREE_CHANNELS_RAW),
+        (HALF_AND_FLOAT, &[], HALF_AND_FLOAT_RAW),
+        (HALF_AND_FLOAT, &["layout=lines"], HALF_AND_FLOAT_LINES),
+        (&two, &["channels=Y,A", "fill=15360"], b"\0@\0<"),
+        (
+            ONE_SAMPLE,
+            &["channels=A:uint,Y", "fill=4294967295", "pad=1", "byte=7"],
+            b"\xff\xff\xff\xff\x07\0<\x07",
+        ),
+        (SAMPLED, &[], SAMPLED_RAW),
+        (SAMPLED, &["window=-1,-1,1,1"], b"\x04\0"),
+        (SAMPLED, &["window=-1,-1,-1,-1"], b""),
+        (TILES, &["window=4,4,4,4"], b"\x180"),
+        (
+            TWENTY_LINES,
+            &["window=0,17,0,18", "workers=16"],
+            b"\x11<\x12<",
+        ),
+        (MISPLACED_BLOCK, &["window=0,0,0,1"], b"\0<\x01<"),
+    ];
+    for (file, more, written) in rows {
+        let words = extract_with(alloc, more)?;
+        let got = outcome_of(&rt, alloc, &words, file, NONE)?;
+        assert_eq!(rt; got.stop, None, "{more:?}");
+        assert_eq!(rt; got.kept.as_ref().map(|v| v.as_slice()), Some(written));
+    }
+    Ok(())
+}
+
+#[test]
+fn what_cannot_be_had(rt: HostRuntime) -> Result<(), Fail> {
+    let alloc = rt.alloc();
+    let rows: [(&[u8], &[&str], RequestFault); 14] = [
+        (ONE_SAMPLE, &["part=1", "window=0,0,1,0"], RequestFault::NoPart),
+        (ONE_SAMPLE, &["window=0,0,1,0"], RequestFault::Window),
+        (ONE_SAMPLE, &["window=0,0,-1,0"], RequestFault::Window),
+        (ONE_SAMPLE, &["window=0,0,0,-1"], RequestFault::Window),
+        (
+            ONE_SAMPLE,
+            &["window=-1073741824,0,1073741824,0"],
+            RequestFault::Window,
+        ),
+        (
+            ONE_SAMPLE,
+            &["channels=Y,Y", "window=0,1,0,1"],
+            RequestFault::Window,
+        ),
+        (
+            SAMPLED,
+            &["channels=Y,A", "layout=lines"],
+            RequestFault::Mixed { slice: 1 },
+        ),
+        (
+            SAMPLED,
+            &["channels=A,B,Y,Y", "layout=pixels"],
+            RequestFault::Mixed { slice: 2 },
+        ),
+        (
+            ONE_SAMPLE,
+            &["channels=Y,A,A"],
+            RequestFault::Layout(LayoutFault::TwiceChannel {
+                first: 1,
+                second: 2,
+            }),
+        ),
+        (
+            ONE_SAMPLE,
+            &["channels=Y,Y:float"],
+            RequestFault::Layout(LayoutFault::TwiceChannel {
+                first: 0,
+                second: 1,
+            }),
+        ),
+        (
+            ONE_SAMPLE,
+            &["channels=Y:float"],
+            RequestFault::Match(MatchFault::KindDiffers { slice: 0 }),
+        ),
+        (
+            THREE_CHANNELS,
+            &["channels=R,A,G:uint,B:float", "layout=pixels"],
+            RequestFault::Match(MatchFault::KindDiffers { slice: 2 }),
+        ),
+        (
+            SAMPLED,
+            &["channels=Y:uint", "window=-1,-1,0,0"],
+            RequestFault::Match(MatchFault::KindDiffers { slice: 0 }),
+        ),
+        (
+            TILES,
+            &["channels=Y:uint", "window=4,4,5,4"],
+            RequestFault::Window,
+        ),
+    ];
+    for (file, more, fault) in rows {
+        let words = extract_with(alloc, more)?;
+        let got = outcome_of(&rt, alloc, &words, file, NONE)?;
+        assert_eq!(rt; got.stop, Some(Stop::Request(fault)), "{more:?}");
+        assert!(rt; got.kept.is_none());
+        assert_eq!(rt; got.printed.len(), 0);
+    }
+    Ok(())
+}
