@@ -64,7 +64,7 @@ same_byte file head head_bytes part i raw spots places k (Some c) is matched chu
     let size = bytes_of (channel_at h.channels c).kind in
     let at = raw_place_of h.channels (region_of h i) c k.x k.y in
     let sample : sample_of file head head_bytes part c k.x k.y ≡ take size (drop at raw) =
-        ap (λ n. sample_in h c k.x k.y n (raw_of file head head_bytes part n)) here ∙ ap (λ r. sample_in h c k.x k.y i (data_or_none r)) chunk in
+    ap (λ n. sample_in h c k.x k.y n (raw_of file head head_bytes part n)) here ∙ ap (λ r. sample_in h c k.x k.y i (data_or_none r)) chunk in
     sym (ap (λ (xs : List ℕ). slice_index xs k.byte) sample ∙ byte_taken raw at size k.byte (omega (arith, within, matched.kinds k.slice c is)))
 
 -- ---- one chunk more
@@ -110,21 +110,21 @@ put_next file head head_bytes part f places chunks n raw first old new ground th
     let spots = spots_of f.planes in
     let place = place_of f.window spots in
     let one : (k : Byte) → IsNamed f.window spots k → Rattle.exr_chunks.specs.Pixels.HasOneChunk h k.x k.y =
-        λ k named. one_chunk h ground.picture k.x k.y (in_data h.window f.window k.x k.y ground.inside named.within) in
+    λ k named. one_chunk h ground.picture k.x k.y (in_data h.window f.window k.x k.y ground.inside named.within) in
     let of_chunk : (k : Byte) → IsNamed f.window spots k → chunk_with h k.x k.y ≡ i → IsInRegion f.window spots (region_of h i) k =
-        λ k named is. record { named = named; within = pixel_of (region_of h i) k.x k.y (subst (λ m. IsWithin (region_of h m) k.x k.y) is (one k named).has) } in
+    λ k named is. record { named = named; within = pixel_of (region_of h i) k.x k.y (subst (λ m. IsWithin (region_of h m) k.x k.y) is (one k named).has) } in
     let its_chunk : (k : Byte) → IsInRegion f.window spots (region_of h i) k → i ≡ chunk_with h k.x k.y =
-        λ k w. (one k w.named).alone i is_chunk (within_of (region_of h i) k.x k.y w.within) in
+    λ k w. (one k w.named).alone i is_chunk (within_of (region_of h i) k.x k.y w.within) in
     record {
       put = λ k w. elim (cases_lt w.rank n) [
         | inl before ↦ elim (cases_eq (chunk_with h k.x k.y) i) [
-            | inl is ↦
-                q.put k (of_chunk k w.named is)
-                ∙ same_byte file head head_bytes part i raw spots places k (slice_index_or places k.slice None) refl ground.matched chunk is w.named.byte
-            | inr differs ↦
-                q.others (place k) (λ j u e. differs (ap (λ (b : Byte). chunk_with h b.x b.y) (sym (ground.once j k u.named w.named e)) ∙ sym (its_chunk j u)))
-                ∙ p.put k (record { named = w.named; rank = w.rank; there = w.there; early = before; chunk = w.chunk })
-          ]
+          | inl is ↦
+              q.put k (of_chunk k w.named is)
+              ∙ same_byte file head head_bytes part i raw spots places k (slice_index_or places k.slice None) refl ground.matched chunk is w.named.byte
+          | inr differs ↦
+              q.others (place k) (λ j u e. differs (ap (λ (b : Byte). chunk_with h b.x b.y) (sym (ground.once j k u.named w.named e)) ∙ sym (its_chunk j u)))
+              ∙ p.put k (record { named = w.named; rank = w.rank; there = w.there; early = before; chunk = w.chunk })
+        ]
         | inr le ↦
             let last : w.rank ≡ n = omega (arith, le, w.early) in
             let is : chunk_with h k.x k.y ≡ i = sym w.chunk ∙ ap (slice_index chunks) last in

@@ -1,7 +1,4 @@
-pub mod Places
-pub mod Samples
-pub mod Chunks
-pub mod Growing
+pub mod Same
 pub mod Meeting
 pub mod Filling
 pub mod InRounds

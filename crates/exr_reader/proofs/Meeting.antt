@@ -67,10 +67,10 @@ listed h w (suc n) i lt meets =
           let P : Bool → Type 0 = λ b. boxes_meet (region_of h n) w ≡ b → IsListed (meeting_among h w (suc n)) i in
           (elim (boxes_meet (region_of h n) w) as P [
             | true ↦ λ is. subst (λ xs. IsListed xs i) (sym (more h w n true is)) (record {
-                rank = there.rank;
-                within = let size = length_push l n in let low = there.within in omega (arith, size, low);
-                is = get_or_append_left l (n ∷ []) 0 there.rank there.within ∙ there.is;
-              })
+              rank = there.rank;
+              within = let size = length_push l n in let low = there.within in omega (arith, size, low);
+              is = get_or_append_left l (n ∷ []) 0 there.rank there.within ∙ there.is;
+            })
             | false ↦ λ is. subst (λ xs. IsListed xs i) (sym (kept h w n is)) there
           ]) refl
       | inr le ↦

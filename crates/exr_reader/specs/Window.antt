@@ -1,6 +1,8 @@
 -- What reading a window of a part puts into the buffer of a layout (own).
-use Rattle.std.specs.Prelude.{◌≡◌, ◌<◌, ◌≤◌, ◌/◌, ◌%◌, ◌^◌, not, ◌&&◌, ◌+◌, ℕ, ℤ, Bool, List, [], length, slice_index, slice_index_or, Option, Some, None, Ok, Err}
+use Rattle.std.specs.Prelude.{◌≡◌, ◌<◌, ◌≤◌, ◌/◌, ◌%◌, ◌^◌, not, ◌&&◌, ◌+◌, ℕ, ℤ, Bool, true, false, List, [], length, slice_index, slice_index_or, Option, Some, None, Ok, Err}
 use Rattle.exr_base.specs.declared.shape.Box2i.{Box2i}
+use Rattle.exr_base.specs.declared.method.Method.{Method}
+use Rattle.exr_base.specs.declared.method.Method.TheVariants.{No}
 use Rattle.exr_base.specs.Shape.{raw_size_of}
 use Rattle.exr_block.specs.declared.fault.ChunkFault.{ChunkFault}
 use Rattle.exr_header.specs.Head.{Head}
@@ -13,8 +15,11 @@ use Rattle.exr_frame.specs.Judging.{Frame}
 use Rattle.exr_frame.specs.Place.{Byte, IsNamed, spot_at, spots_of, place_of}
 use Rattle.exr_frame.specs.Put.{IsPut, IsInRegion, chunk_byte}
 use Rattle.exr_reader.specs.Sample.{sample_of}
-use Rattle.exr_reader.specs.Whole.{is_raw}
 use Rattle.exr_reader.specs.Reading.{HasData}
+
+abbrev pub is_raw : Method → Bool
+is_raw No = true
+is_raw _ = false
 
 -- the parts that are read so far: not deep, and without compression
 abbrev pub is_flat : Header → Bool

@@ -3,17 +3,14 @@
 
 mod cause;
 mod fetched;
-mod plain;
-mod planes;
+mod flat;
 mod rounds;
 #[cfg(test)]
 mod tests;
-mod whole;
 mod window;
 mod work;
 
 pub use cause::ReadCause;
-pub use plain::{is_plain, planes_size};
-pub use whole::read_whole;
+pub use flat::is_flat;
 pub use window::{read_first, read_window};
 pub use work::{ReadStop, Work};

@@ -107,13 +107,21 @@ fn put_round<W: World, S: Source>(
     requires into { length into.old ≡ layout.now.buffer }
     ensures { IsTrue S.means.tells → (first : List ℕ)
         → ArePut (S.means.content stream.now.source) stream.now.head stream.now.head_bytes part
-            layout.now plan.now.channels.items chunks.now from first into.old
+        layout.now plan.now.channels.items chunks.now from first into.old
         → ArePut (S.means.content stream.now.source) stream.now.head stream.now.head_bytes part
-            layout.now plan.now.channels.items chunks.now (from + length raws.now) first into.new }
+        layout.now plan.now.channels.items chunks.now (from + length raws.now) first into.new }
 {
     let _picture = stream.header(part);
     for k in 0..raws.len() {
-        put_chunk(stream, part, layout, plan, chunks[from + k], raws[k].as_slice(), into);
+        put_chunk(
+            stream,
+            part,
+            layout,
+            plan,
+            chunks[from + k],
+            raws[k].as_slice(),
+            into,
+        );
     }
 }
 
@@ -163,7 +171,16 @@ pub(crate) fn read_rounds<W: World, S: Source, G: Gate>(
         let from = rounds * size;
         let to = chunks.len().min(from + size);
         match read_round(alloc, stream, part, chunks, from, to, gate) {
-            Ok(raws) => put_round(stream, part, layout, plan, chunks, from, raws.as_slice(), into),
+            Ok(raws) => put_round(
+                stream,
+                part,
+                layout,
+                plan,
+                chunks,
+                from,
+                raws.as_slice(),
+                into,
+            ),
             Err(cause) => {
                 return Err(ReadStop {
                     cause,

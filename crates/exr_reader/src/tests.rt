@@ -1,14 +1,20 @@
-//! Whole parts of three small files: tiles, falling lines, and a second part.
+//! Windows of small files: the rounds in which they are read, where reading stops, and which chunks are looked at.
 
-use crate::{ReadCause, is_plain, planes_size, read_whole};
+ghost use Rattle.std.specs.Prelude.{◌≡◌, ◌≤◌, ◌≤ℤ◌, IfOk};
+ghost use Rattle.exr_base.specs.Shape.{IsRegion};
+ghost use Rattle.exr_chunks.specs.Pixels.{IsInside};
+
+use crate::{ReadCause, ReadStop, Work, is_flat, read_window};
+use exr_base::{Box2i, Kind, Name};
 use exr_block::ChunkFault;
-use exr_outside::MemSource;
+use exr_frame::{Layout, Plane, Run, Slice, has_few_slices, match_part};
+use exr_outside::{MemSource, PlainGate};
 use exr_stream::{OpenStop, Stream};
 use std::alloc::Global;
 use std::marker::Brand;
 use std::test::Fail;
 
-/// The attributes that each part has, of one HALF channel and a window from (0, 0), without compression.
+/// The attributes that each part has, of the HALF channel Y and a window from (0, 0), without compression.
 fn attributes(alloc: Global, right: u8, bottom: u8, order: u8) -> Result<Vec<u8>, Fail> {
     let window = [0, 0, 0, 0, 0, 0, 0, 0, right, 0, 0, 0, bottom, 0, 0, 0];
     let mut bytes = b"channels\0chlist\0\x13\0\0\0Y\0\x01\0\0\0\0\0\0\0\x01\0\0\0\x01\0\0\0\0\
@@ -59,118 +65,237 @@ fn tiles(alloc: Global) -> Result<Vec<u8>, Fail> {
     Ok(bytes)
 }
 
-/// A file of two falling lines of one pixel with these entries; the second line's chunk stands at 293, the first one's at 303.
-fn falling(alloc: Global, entries: [u64; 2]) -> Result<Vec<u8>, Fail> {
+/// A file of twenty lines of one pixel: line y has the sample 0x3c00 + y. The chunk of a line may say that it is line 0.
+fn lines(alloc: Global, misplaced: Option<u8>) -> Result<Vec<u8>, Fail> {
     let mut bytes = b"v/1\x01\x02\0\0\0".to_vec(alloc)?;
-    bytes.extend_from_slice(&attributes(alloc, 0, 1, 1)?)?;
+    bytes.extend_from_slice(&attributes(alloc, 0, 19, 0)?)?;
     bytes.push(0)?;
-    for entry in entries {
+    for y in 0u8..20 {
+        let entry = 437u64 + 10 * u64::from(y);
         bytes.extend_from_slice(&entry.to_le_bytes())?;
     }
-    bytes.extend_from_slice(b"\x01\0\0\0\x02\0\0\0\x22\x3c\0\0\0\0\x02\0\0\0\x11\x3c")?;
+    for y in 0u8..20 {
+        let says = if misplaced == Some(y) { 0 } else { y };
+        bytes.extend_from_slice(&[says, 0, 0, 0, 2, 0, 0, 0, y, 0x3c])?;
+    }
     Ok(bytes)
 }
 
-/// Two parts of one pixel: the heads have 685 bytes, the chunks stand at 701 and 715.
-fn two_parts(alloc: Global) -> Result<Vec<u8>, Fail> {
-    let mut bytes = b"v/1\x01\x02\x10\0\0".to_vec(alloc)?;
-    for name in [b'a', b'b'] {
-        bytes.extend_from_slice(&attributes(alloc, 0, 0, 0)?)?;
-        bytes.extend_from_slice(b"name\0string\0\x01\0\0\0")?;
-        bytes.push(name)?;
-        bytes.extend_from_slice(
-            b"type\0string\0\x0d\0\0\0scanlineimagechunkCount\0int\0\x04\0\0\0\x01\0\0\0\0",
-        )?;
+/// The whole data window of such a file, and three lines of it.
+const ALL_LINES: Box2i = Box2i {
+    x0: 0,
+    y0: 0,
+    x1: 0,
+    y1: 19,
+};
+
+const THREE_LINES: Box2i = Box2i {
+    x0: 0,
+    y0: 3,
+    x1: 0,
+    y1: 5,
+};
+
+/// The data window of the tiles, and its last pixel.
+const ALL_TILES: Box2i = Box2i {
+    x0: 0,
+    y0: 0,
+    x1: 4,
+    y1: 4,
+};
+
+const LAST_PIXEL: Box2i = Box2i {
+    x0: 4,
+    y0: 4,
+    x1: 4,
+    y1: 4,
+};
+
+/// A plane of the HALF channel Y over a window, whose lines have so many bytes.
+fn layout(alloc: Global, window: Box2i, stride: u64, bytes: u64) -> Result<Layout, Fail>
+    requires region { IsRegion window }
+    requires columns { window.x0 ≤ℤ window.x1 }
+    requires rows { window.y0 ≤ℤ window.y1 }
+    ensures { IfOk result (λ l. (l.window ≡ window) × (l.buffer ≡ bytes)) }
+{
+    let slice = Slice {
+        channel: Name::new(b"Y").ok_or("a name")?,
+        kind: Kind::Half,
+        at: 0,
+        fill: 0,
+    };
+    let run = Run {
+        at: 0,
+        stride: 2,
+        sampling: 1,
+        slices: vec![in alloc; slice]?,
+    };
+    let plane = Plane {
+        base: 0,
+        stride,
+        sampling: 1,
+        runs: vec![in alloc; run]?,
+    };
+    let planes = vec![in alloc; plane]?;
+    if !has_few_slices(planes.as_slice()) {
+        return Err(Fail::from("too many slices"));
     }
-    bytes.extend_from_slice(
-        b"\0\xbd\x02\0\0\0\0\0\0\xcb\x02\0\0\0\0\0\0\
-          \0\0\0\0\0\0\0\0\x02\0\0\0\x11\x3c\x01\0\0\0\0\0\0\0\x02\0\0\0\x22\x3c",
-    )?;
-    Ok(bytes)
+    match Layout::new(planes, window, bytes) {
+        Ok(layout) => Ok(layout),
+        Err(_) => Err(Fail::from("no layout")),
+    }
 }
 
-/// What reading a part of a stream's file answers, and how many bytes its planes have; None where there is no such part to be
-/// read.
-type Answer = Option<(Result<Vec<u8>, ReadCause>, u64)>;
+/// What a read of a stream's window answers, and the buffer, whose bytes began as 0xee; None where the part is not one to be read.
+type Answer = (Result<(), ReadStop>, Vec<u8>);
 
-fn answer_of(alloc: Global, stream: &mut Stream<Brand, MemSource>, part: u32) -> Answer {
-    if part as usize >= stream.head().parts().len() || !is_plain(stream.header(part)) {
-        return None;
+/// Reads a window that has the columns and the lines of the data window, or fewer.
+fn read_stream(
+    alloc: Global,
+    stream: &mut Stream<Brand, MemSource>,
+    all: Box2i,
+    layout: &Layout,
+    round: u32,
+) -> Result<Answer, Fail>
+    requires inside { IsInside all layout.now.window }
+    requires round { 1 ≤ round }
+{
+    if stream.head().parts().is_empty() {
+        return Err(Fail::from("no part"));
     }
-    let size = planes_size(stream.header(part));
-    Some((read_whole(alloc, stream, part), size))
+    let part = stream.header(0);
+    if part.window() != all || !is_flat(part) {
+        return Err(Fail::from("another part"));
+    }
+    let Ok(plan) = match_part(alloc, layout, part) else {
+        return Err(Fail::from("another channel"));
+    };
+    let mut buffer = vec![in alloc; 0xeeu8; layout.buffer() as usize]?;
+    let work = Work { workers: 1, round };
+    let answer = read_window(
+        alloc,
+        stream,
+        0,
+        layout,
+        &plan,
+        work,
+        &PlainGate,
+        buffer.as_mut_slice(),
+    );
+    Ok((answer, buffer))
 }
 
-/// The same for a file.
-fn read(
+/// The same of a file, whose read of a number fails; None where the file is not opened.
+fn opened(
     alloc: Global,
     bytes: Vec<u8>,
-    part: u32,
-) -> Result<(Result<Vec<u8>, ReadCause>, u64), Fail> {
-    let source = MemSource::new(alloc, "a", bytes, Vec::new(alloc), Vec::new(alloc))?;
-    let answer = match Stream::open(alloc, source) {
+    all: Box2i,
+    layout: &Layout,
+    round: u32,
+    failing: u64,
+) -> Result<Option<Answer>, Fail>
+    requires inside { IsInside all layout.now.window }
+    requires round { 1 ≤ round }
+{
+    let fails = vec![in alloc; failing]?;
+    let source = MemSource::new(alloc, "a", bytes, Vec::new(alloc), fails)?;
+    match Stream::open(alloc, source) {
         Ok(mut stream) => {
-            let answer = answer_of(alloc, &mut stream, part);
+            let answer = read_stream(alloc, &mut stream, all, layout, round);
             let _source = stream.into_source();
-            answer
+            Ok(Some(answer?))
         }
         Err(
             OpenStop {
                 source: _source,
                 cause: _cause,
             },
-        ) => None,
-    };
-    let Some(answer) = answer else {
-        return Err("not read".into());
-    };
-    Ok(answer)
-}
-
-// Each pixel of five by five stands at its number.
-#[test]
-fn five_by_five_in_tiles_of_two(rt: HostRuntime) -> Result<(), Fail> {
-    let alloc = rt.alloc();
-    let mut wanted = Vec::new(alloc);
-    for pixel in 0u8..25 {
-        wanted.extend_from_slice(&[pixel, 0x30])?;
+        ) => Ok(None),
     }
-    let (planes, size) = read(alloc, tiles(alloc)?, 0)?;
-    assert_eq!(rt; size, 50);
-    assert_eq!(rt; planes?.as_slice(), wanted.as_slice());
-    Ok(())
 }
 
-// The planes have the first line first, wherever its chunk stands; the second part has samples of its own.
-#[test]
-fn lines_and_parts(rt: HostRuntime) -> Result<(), Fail> {
-    let alloc = rt.alloc();
-    let (planes, size) = read(alloc, falling(alloc, [303, 293])?, 0)?;
-    assert_eq!(rt; size, 4);
-    assert_eq!(rt; planes?.as_slice(), b"\x11\x3c\x22\x3c".as_slice());
-    for (part, wanted) in [(0, b"\x11\x3c"), (1, b"\x22\x3c")] {
-        let (planes, size) = read(alloc, two_parts(alloc)?, part)?;
-        assert_eq!(rt; size, 2);
-        assert_eq!(rt; planes?.as_slice(), wanted.as_slice());
+/// The same of a file whose reads do not fail.
+fn read(
+    alloc: Global,
+    bytes: Vec<u8>,
+    all: Box2i,
+    layout: &Layout,
+    round: u32,
+) -> Result<Answer, Fail>
+    requires inside { IsInside all layout.now.window }
+    requires round { 1 ≤ round }
+{
+    match opened(alloc, bytes, all, layout, round, u64::MAX)? {
+        Some(answer) => Ok(answer),
+        None => Err(Fail::from("not opened")),
     }
-    Ok(())
 }
 
-// The first fault by the chunks' indexes is told.
+// A round is judged whole before any of it is put.
 #[test]
-fn first_faults(rt: HostRuntime) -> Result<(), Fail> {
+fn rounds_before_a_fault(rt: HostRuntime) -> Result<(), Fail> {
     let alloc = rt.alloc();
-    for (entries, index, fault) in [
-        ([303, 0], 1, ChunkFault::Unwritten),
-        ([303, 303], 1, ChunkFault::WrongPlace),
-        ([293, 303], 0, ChunkFault::WrongPlace),
-        ([313, 0], 0, ChunkFault::Outside),
-    ] {
-        let (planes, _) = read(alloc, falling(alloc, entries)?, 0)?;
-        let Err(cause) = planes else {
-            return Err("read".into());
+    let layout = layout(alloc, ALL_LINES, 2, 40)?;
+    for (round, rounds, put) in [(16u32, 1u32, 16usize), (1, 17, 17), (5, 3, 15)] {
+        let file = lines(alloc, Some(17))?;
+        let (answer, buffer) = read(alloc, file, ALL_LINES, &layout, round)?;
+        let cause = ReadCause::Chunk {
+            index: 17,
+            fault: ChunkFault::WrongPlace,
         };
-        assert_eq!(rt; cause, ReadCause::Chunk { index, fault });
+        assert_eq!(rt; answer, Err(ReadStop { cause, rounds }));
+        for (y, sample) in buffer.chunks_exact(2).enumerate() {
+            let wanted = if y < put {
+                [y as u8, 0x3c]
+            } else {
+                [0xee, 0xee]
+            };
+            assert_eq!(rt; sample, wanted.as_slice());
+        }
     }
+    Ok(())
+}
+
+// Chunks that the window does not meet are not looked at, and bytes behind each line stay as they were.
+#[test]
+fn three_lines_of_twenty(rt: HostRuntime) -> Result<(), Fail> {
+    let alloc = rt.alloc();
+    let layout = layout(alloc, THREE_LINES, 3, 9)?;
+    for misplaced in [None, Some(2), Some(6)] {
+        let file = lines(alloc, misplaced)?;
+        let (answer, buffer) = read(alloc, file, ALL_LINES, &layout, 2)?;
+        answer?;
+        assert_eq!(rt;
+            buffer.as_slice(),
+            b"\x03\x3c\xee\x04\x3c\xee\x05\x3c\xee".as_slice()
+        );
+    }
+    Ok(())
+}
+
+/// How many reads of the tiles' file a window takes: the first whose failure is not met.
+fn reads(alloc: Global, layout: &Layout) -> Result<u64, Fail>
+    requires { IsInside ALL_TILES layout.now.window }
+{
+    for number in 0..64u64 {
+        let file = tiles(alloc)?;
+        if let Some((Ok(()), _)) = opened(alloc, file, ALL_TILES, layout, 4, number)? {
+            return Ok(number);
+        }
+    }
+    Err(Fail::from("too many reads"))
+}
+
+// A pixel of nine tiles takes one of their chunks, all pixels take nine.
+#[test]
+fn one_tile_of_nine(rt: HostRuntime) -> Result<(), Fail> {
+    let alloc = rt.alloc();
+    let one = layout(alloc, LAST_PIXEL, 2, 2)?;
+    let (answer, buffer) = read(alloc, tiles(alloc)?, ALL_TILES, &one, 1)?;
+    answer?;
+    assert_eq!(rt; buffer.as_slice(), b"\x18\x30".as_slice());
+    let all = layout(alloc, ALL_TILES, 10, 50)?;
+    let reads_of_one = reads(alloc, &one)?;
+    assert_eq!(rt; reads(alloc, &all)?, reads_of_one.saturating_add(8));
     Ok(())
 }

@@ -110,5 +110,7 @@ pub fn read_window<W: World, S: Source, G: Gate>(
             });
         }
     };
-    read_rounds(alloc, stream, part, layout, plan, &chunks, work.round, gate, into)
+    read_rounds(
+        alloc, stream, part, layout, plan, &chunks, work.round, gate, into,
+    )
 }

@@ -11,7 +11,7 @@ use Rattle.exr_frame.specs.declared.plan.Plan.{Plan}
 use Rattle.exr_frame.specs.Judging.{Frame}
 use Rattle.exr_request.specs.Demand.{Demand}
 use Rattle.exr_request.specs.Request.{window_asked, part_asked, IsGranted, IsRefused}
-use Rattle.exr_request.proofs.Alone.{one_refusal, not_both as granted_not_refused}
+use Rattle.exr_request.proofs.Once.{one_refusal, not_both as granted_not_refused}
 use Rattle.exr_reader.specs.Window.{IsFirstFaultOf}
 use Rattle.exr_tools.specs.declared.stop.Stop.{Stop}
 use Rattle.exr_tools.specs.declared.stop.Stop.TheVariants.{NoMemory, Words, File, Read, Write, Request, Form}
@@ -46,9 +46,9 @@ not_both r x e ok err = absurd (cc (sym ok ∙ err))
 -- two frames of what is asked for have one window
 window_is : (head : Head) (d : Demand) (f g : Frame) (p q : Plan) → IsGranted head d f p → IsGranted head d g q → f.window ≡ g.window
 window_is head d f g p q first second =
-    first.arranged.window
+    first.fit.arranged.window
     ∙ ap (window_asked d) (one_value (part_asked head d) first.part second.part first.asked second.asked)
-    ∙ sym second.arranged.window
+    ∙ sym second.fit.arranged.window
 
 chunks_are : (head : Head) (d : Demand) (f g : Frame) (p q : Plan) → IsGranted head d f p → IsGranted head d g q → chunks_asked head d f ≡ chunks_asked head d g
 chunks_are head d f g p q first second =

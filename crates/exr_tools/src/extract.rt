@@ -15,7 +15,7 @@ use crate::stop::{FileFault, Stop};
 use exr_base::{Failed, Refusal};
 use exr_outside::{Files, Gate, Printer, Sink, Source, World, append_all};
 use exr_reader::{ReadCause, ReadStop, Work, read_first, read_window};
-use exr_request::{Asked, Request, request};
+use exr_request::{Asked, Granted, request};
 use exr_stream::{OpenStop, Stream};
 use std::alloc::Global;
 
@@ -43,18 +43,18 @@ pub(crate) struct Extraction {
     pub workers: u32,
 }
 
-/// Fills the buffer of a request with the samples of a stream's file. The first chunk is read before memory for the buffer is
+/// Fills the buffer of what was granted with the samples of a stream's file. The first chunk is read before memory for the buffer is
 /// asked for, so that a small file which claims a large picture takes little.
 fn filled<W: World, S: Source, G: Gate>(
     alloc: Global,
     stream: &mut Stream<W, S>,
-    request: &Request,
+    granted: &Granted,
     extraction: &Extraction,
     gate: &G,
 ) -> Result<Vec<u8>, Stop>
     requires workers { 1 ≤ extraction.now.workers }
     requires head { HasHead S.means stream.old }
-    requires granted { IsGranted stream.old.head (demand_of extraction.now.asked) request.now.layout request.now.plan }
+    requires granted { IsGranted stream.old.head (demand_of extraction.now.asked) granted.now.layout granted.now.plan }
     ensures buffer { IsTrue S.means.tells → IfOk result (λ buffer.
         IsExtracted (S.means.content stream.old.source) (demand_of extraction.now.asked) extraction.now.byte buffer.items) }
     ensures same { IsSameStream S.means stream.old stream.new }
@@ -64,7 +64,7 @@ fn filled<W: World, S: Source, G: Gate>(
         (Rose (S.means.faults stream.old.source) (S.means.faults stream.new.source)) ⊥) }
 {
     let part = extraction.asked.part;
-    let layout = &request.layout;
+    let layout = &granted.layout;
     if let Err(cause) = read_first(alloc, stream, part, layout.window()) {
         return Err(stop_of(part, cause));
     }
@@ -78,7 +78,7 @@ fn filled<W: World, S: Source, G: Gate>(
         stream,
         part,
         layout,
-        &request.plan,
+        &granted.plan,
         work,
         gate,
         buffer.as_mut_slice(),
@@ -106,8 +106,8 @@ fn stream_buffer<W: World, S: Source, G: Gate>(
         (λ due. IsTrue S.means.tells → IsUnread due (S.means.content stream.old.source) (demand_of extraction.now.asked))
         (Rose (S.means.faults stream.old.source) (S.means.faults stream.new.source)) ⊥) }
 {
-    let request = request(alloc, stream.head(), &extraction.asked)?;
-    filled(alloc, stream, &request, extraction, gate)
+    let granted = request(alloc, stream.head(), &extraction.asked)?;
+    filled(alloc, stream, &granted, extraction, gate)
 }
 
 /// The buffer of what is asked of a source's file, and the source.

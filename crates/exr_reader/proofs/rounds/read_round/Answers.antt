@@ -3,7 +3,7 @@ use Rattle.std.proofs.Common.{IsTrue, map, slice_index, refl, sym, ◌∙◌, ar
 use Rattle.std.proofs.lemmas.List.{length-map}
 use Rattle.exr_outside.specs.Count.{Rose}
 use Rattle.exr_reader.specs.Window.{IsFaultFrom}
-use Rattle.exr_reader.proofs.Growing.{chunk_same}
+use Rattle.exr_reader.proofs.Same.{chunk_same}
 use Rattle.exr_reader.proofs.InRounds.{cause_by, fault_here}
 use Rattle.exr_reader.proofs.rounds.read_round.Goals as goal
 
@@ -19,7 +19,7 @@ returns-in-Err-clause-cause g c =
     (λ n fault. IsTrue means.tells → IsFaultFrom file s.head s.head_bytes c.args.part c.args.chunks.now c.args.from c.args.to n fault)
     _ (Rose (means.faults s.source) (means.faults c.raw_data.new.stream.source))
     (λ n fault has told.
-        fault_here (IsTrue means.tells) file s.head s.head_bytes c.args.part c.args.chunks.now c.args.from c.args.to rank i n (map (λ raw. raw.items) c.loop-rank.raws.items) fault
-        told (let size = length-map c.loop-rank.raws.items (λ raw. raw.items) in let many = way.many in omega (arith, size, many)) c.loop-rank-test.true refl way.raws has.0 (sym (chunk_same means s c.loop-rank.stream c.args.part i way.same told) ∙ has.1 told))
+    fault_here (IsTrue means.tells) file s.head s.head_bytes c.args.part c.args.chunks.now c.args.from c.args.to rank i n (map (λ raw. raw.items) c.loop-rank.raws.items) fault
+    told (let size = length-map c.loop-rank.raws.items (λ raw. raw.items) in let many = way.many in omega (arith, size, many)) c.loop-rank-test.true refl way.raws has.0 (sym (chunk_same means s c.loop-rank.stream c.args.part i way.same told) ∙ has.1 told))
     (λ rose. let later = way.later in omega (arith, rose, later))
     c.in-Err.ensures.cause

@@ -5,7 +5,7 @@ use Rattle.exr_outside.specs.Count.{Rose}
 use Rattle.exr_header.specs.Head.{Head}
 use Rattle.exr_reader.specs.Reading.{HasData}
 use Rattle.exr_reader.specs.Window.{ArePut, IsFaultFrom, IsStopAt}
-use Rattle.exr_reader.proofs.Growing.{same_still}
+use Rattle.exr_reader.proofs.Same.{same_still}
 use Rattle.exr_reader.proofs.Filling.{put_as_far}
 use Rattle.exr_reader.proofs.InRounds.{raw_data, data_more, stop_at, cause_by, round_begun, rounds_ended, carried, carried_back}
 use Rattle.exr_reader.proofs.rounds.read_rounds.Goals as goal
@@ -22,8 +22,8 @@ returns-in-Err-clause-cause g c =
     (λ n fault. IsTrue means.tells → IsStopAt file s.head s.head_bytes c.args.part chunks c.args.round q n fault)
     _ (Rose (means.faults s.source) (means.faults c.read_round.new.stream.source))
     (λ n fault has told.
-        stop_at file s.head s.head_bytes c.args.part chunks c.args.round q c.min-to.result n fault c.requires.round (let least = c.min-to.ensures in omega (arith, least)) (let least = c.min-to.ensures in omega (arith, least)) (way.chunks told)
-        (carried_back means s c.loop-rounds.stream (λ file head bytes. IsFaultFrom file head bytes c.args.part chunks (q * c.args.round) c.min-to.result n fault) way.same told (has told)))
+    stop_at file s.head s.head_bytes c.args.part chunks c.args.round q c.min-to.result n fault c.requires.round (let least = c.min-to.ensures in omega (arith, least)) (let least = c.min-to.ensures in omega (arith, least)) (way.chunks told)
+    (carried_back means s c.loop-rounds.stream (λ file head bytes. IsFaultFrom file head bytes c.args.part chunks (q * c.args.round) c.min-to.result n fault) way.same told (has told)))
     (λ rose. let later = way.later in omega (arith, rose, later))
     c.in-Err.ensures.cause
 
@@ -55,7 +55,7 @@ loop-rounds-preserved g c =
       chunks = λ told.
           data_more (means.content s.source) s.head s.head_bytes c.args.part chunks from ((q + 1) * size) (way.chunks told)
           (λ r in_list behind early. carried_back means s c.loop-rounds.stream (λ file head bytes. HasData file head bytes c.args.part (slice_index chunks r)) way.same told
-              (raw_data (IsTrue means.tells) (means.content c.loop-rounds.stream.source) c.loop-rounds.stream.head c.loop-rounds.stream.head_bytes c.args.part chunks from (map (λ raw. raw.items) raws.items) told c.in-Ok.ensures.raws r behind (let m = length-map raws.items (λ raw. raw.items) in let n = c.in-Ok.ensures.many in omega (arith, m, n, least, begun, early, in_list))));
+          (raw_data (IsTrue means.tells) (means.content c.loop-rounds.stream.source) c.loop-rounds.stream.head c.loop-rounds.stream.head_bytes c.args.part chunks from (map (λ raw. raw.items) raws.items) told c.in-Ok.ensures.raws r behind (let m = length-map raws.items (λ raw. raw.items) in let n = c.in-Ok.ensures.many in omega (arith, m, n, least, begun, early, in_list))));
       same = same;
       later = let a = way.later in let b = c.read_round.ensures.later in omega (arith, a, b);
       size = search rules;

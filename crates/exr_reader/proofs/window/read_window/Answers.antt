@@ -20,7 +20,7 @@ returns-clause-filled g c = λ told.
     let picture : IsPicture h = subst IsPicture c.header-picture.ensures.exact c.header-picture.ensures.picture in
     on_ok c.read_rounds.result _ _
     (λ put. put_all file s.head s.head_bytes c.args.part f places c.args.into.now new picture c.requires.window
-        (subst (λ (l : List ℕ). ArePut file s.head s.head_bytes c.args.part f places l (length l) c.args.into.now new) list put))
+    (subst (λ (l : List ℕ). ArePut file s.head s.head_bytes c.args.part f places l (length l) c.args.into.now new) list put))
     (c.read_rounds.ensures.put told)
 
 pub returns-clause-chunks : goal.returns-clause-chunks

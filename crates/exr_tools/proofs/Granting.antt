@@ -1,0 +1,99 @@
+-- What a grant says of its part, of the window and of the layout; and stops of what is asked.
+use Rattle.std.proofs.Common.{◌≡◌, ◌<◌, ◌≤◌, ◌^◌, ℕ, ℤ, Bool, true, false, not, ◌||◌, ◌&&◌, IsTrue, List, length, replicate, Option, Result, Ok, Err, refl, sym, ap, subst, ◌∙◌, arith, ◌≤ℤ◌}
+use Rattle.std.specs.Prelude.{int_le, int_lt}
+use Rattle.std.proofs.lemmas.Bool.{and_parts}
+use Rattle.std.proofs.lemmas.Int.{ints}
+use Rattle.exr_base.specs.declared.shape.Box2i.{Box2i}
+use Rattle.exr_base.specs.declared.refusal.Refusal.{Refusal}
+use Rattle.exr_base.specs.declared.refusal.Refusal.TheVariants as refusal
+use Rattle.exr_judge.specs.Picture.{is_empty}
+use Rattle.exr_header.specs.Head.{Head, head_of}
+use Rattle.exr_chunks.specs.Heads.{Header, is_deep}
+use Rattle.exr_chunks.specs.Pixels.{IsInside}
+use Rattle.exr_chunks.specs.Region.{no_header, header_at}
+use Rattle.exr_frame.specs.declared.plan.Plan.{Plan}
+use Rattle.exr_frame.specs.Judging.{Frame}
+use Rattle.exr_frame.specs.Plan.{is_side_inside, is_inside, IsPlanOf}
+use Rattle.exr_request.specs.declared.fault.RequestStop.{RequestStop}
+use Rattle.exr_request.specs.declared.fault.RequestStop.TheVariants as stops
+use Rattle.exr_request.specs.Demand.{Demand}
+use Rattle.exr_request.specs.Request.{is_window_of, window_asked, IsGranted, IsRefused, IsRefusal}
+use Rattle.exr_request.proofs.Passed.{readable, matched}
+use Rattle.exr_reader.specs.Window.{is_raw, is_flat}
+use Rattle.exr_tools.specs.declared.stop.Stop.{Stop}
+use Rattle.exr_tools.specs.declared.stop.Stop.TheVariants.{NoMemory, Request, Form}
+use Rattle.exr_tools.specs.Stops.{stop_asked, stop_of_request}
+use Rattle.exr_tools.specs.Run.{IsRefusedBy, IsUnread, HasReason}
+
+-- ---- windows
+
+neither : (a b : Bool) → not (a || b) ≡ true → (a ≡ false) × (b ≡ false)
+neither false false h = (refl, refl)
+neither false true h = absurd (cc)
+neither true b h = absurd (cc)
+
+lt_false : (a b : ℤ) → int_lt b a ≡ false → a ≤ℤ b
+lt_false a b h = grind (arith, ints)
+
+le_true : (a b : ℤ) → int_le a b ≡ true → a ≤ℤ b
+le_true a b h = grind (arith, ints)
+
+inside_of : (h : Header) (w : Box2i) → IsTrue (is_window_of h w) → IsInside h.window w
+inside_of h w within =
+    let a = and_parts (not (is_empty w)) (is_inside w h.window) within in
+    let b = neither (int_lt w.x1 w.x0) (int_lt w.y1 w.y0) a.0 in
+    let c = and_parts (is_side_inside w.x0 w.x1 h.window.x0 h.window.x1) (is_side_inside w.y0 w.y1 h.window.y0 h.window.y1) a.1 in
+    let x = and_parts (int_le h.window.x0 w.x0) (int_le w.x1 h.window.x1) c.0 in
+    let y = and_parts (int_le h.window.y0 w.y0) (int_le w.y1 h.window.y1) c.1 in
+    record {
+      left = le_true h.window.x0 w.x0 x.0;
+      columns = lt_false w.x0 w.x1 b.0;
+      right = le_true w.x1 h.window.x1 x.1;
+      top = le_true h.window.y0 w.y0 y.0;
+      rows = lt_false w.y0 w.y1 b.1;
+      bottom = le_true w.y1 h.window.y1 y.1;
+    }
+
+-- ---- grants
+
+pub record IsGround (head : Head) (d : Demand) (f : Frame) (plan : Plan) : Type 0 where
+  pub there : d.part < length head.parts
+  pub flat : IsTrue (is_flat (header_at head.parts d.part))
+  pub inside : IsInside (header_at head.parts d.part).window f.window
+  pub planned : IsPlanOf f (header_at head.parts d.part).channels plan
+  pub small : f.buffer ≤ 2 ^ 30
+
+flat_is : (h : Header) → is_deep h.kind ≡ false → is_raw h.method ≡ true → IsTrue (is_flat h)
+flat_is h deep raw = rw (deep, raw) refl
+
+pub ground : (head : Head) (d : Demand) (f : Frame) (plan : Plan) → IsGranted head d f plan → IsGround head d f plan
+ground head d f plan granted =
+    let h = granted.part in
+    let r = readable head d h granted.asked in
+    let same : h ≡ header_at head.parts d.part = sym (r.here no_header) in
+    let m = matched h f plan.channels.items granted.fit.tested in
+    let window : window_asked d h ≡ f.window = sym granted.fit.arranged.window in
+    record {
+      there = r.there;
+      flat = subst (λ (x : Header). IsTrue (is_flat x)) same (flat_is h r.flat (ap is_raw r.raw));
+      inside = subst (λ (x : Header). IsInside x.window f.window) same (inside_of h f.window (subst (λ w. IsTrue (is_window_of h w)) window r.within));
+      planned = subst (λ (x : Header). IsPlanOf f x.channels plan) same granted.fit.planned;
+      small = m.small;
+    }
+
+-- ---- stops
+
+asked_due : (why : RequestStop) (file : List ℕ) (d : Demand) (head : Head) (bytes : ℕ) → head_of file ≡ Ok (head, bytes) → IsRefused head d why → IsUnread (stop_asked why) file d
+asked_due stops.Form file d head bytes found refused = record { head = head; bytes = bytes; found = found; why = stops.Form; refused = refused; is = refl }
+asked_due (stops.Fault fault) file d head bytes found refused = record { head = head; bytes = bytes; found = found; why = stops.Fault fault; refused = refused; is = refl }
+
+by_stop : (why : RequestStop) (P : Stop → Type 0) (T read : Type 0) → (T → P (stop_asked why)) → HasReason (stop_asked why) (λ _. ⊥) (λ due. T → P due) read ⊥
+by_stop stops.Form P T read due = due
+by_stop (stops.Fault fault) P T read due = due
+
+-- the reason of a request's refusal
+pub refused_reason : (r : Refusal RequestStop) (file : List ℕ) (d : Demand) (head : Head) (bytes : ℕ) (T read : Type 0) → (T → head_of file ≡ Ok (head, bytes)) → IsRefusal head d r
+    → HasReason (stop_of_request r) (λ _. ⊥) (λ due. T → IsUnread due file d) read ⊥
+refused_reason (refusal.Fault why) file d head bytes T read found refused =
+    by_stop why (λ due. IsUnread due file d) T read (λ told. asked_due why file d head bytes (found told) refused)
+refused_reason refusal.NoMemory file d head bytes T read found refused = tt
