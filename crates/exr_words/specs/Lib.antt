@@ -1,6 +1,11 @@
 pub mod Command
 pub mod Names
 pub mod Number
+pub mod Parts
+pub mod Window
+pub mod Layout
+pub mod Channels
 pub mod Fields
 pub mod Words
 pub mod Views
+pub mod Limits

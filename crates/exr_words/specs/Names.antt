@@ -3,7 +3,7 @@ use Rattle.std.specs.Prelude.{ℕ, Bool, true, false, bytes_eq, List, codes, Opt
 use Rattle.exr_words.specs.declared.names.Verb.{Verb}
 use Rattle.exr_words.specs.declared.names.Verb.TheVariants.{Header, Extract}
 use Rattle.exr_words.specs.declared.names.Key.{Key}
-use Rattle.exr_words.specs.declared.names.Key.TheVariants.{In, Out, Part}
+use Rattle.exr_words.specs.declared.names.Key.TheVariants.{In, Out, Part, Window, Layout, Channels, Pad, Fill, Byte, Workers}
 
 -- the command of a name
 abbrev pub verb_of : List ℕ → Option Verb
@@ -16,7 +16,14 @@ abbrev pub key_of : List ℕ → Option Key
 key_of name =
     if bytes_eq name (codes "in") then Some In else (
     if bytes_eq name (codes "out") then Some Out else (
-    if bytes_eq name (codes "part") then Some Part else None))
+    if bytes_eq name (codes "part") then Some Part else (
+    if bytes_eq name (codes "window") then Some Window else (
+    if bytes_eq name (codes "layout") then Some Layout else (
+    if bytes_eq name (codes "channels") then Some Channels else (
+    if bytes_eq name (codes "pad") then Some Pad else (
+    if bytes_eq name (codes "fill") then Some Fill else (
+    if bytes_eq name (codes "byte") then Some Byte else (
+    if bytes_eq name (codes "workers") then Some Workers else None)))))))))
 
 -- the keys of each command
 abbrev pub takes : Verb → Key → Bool

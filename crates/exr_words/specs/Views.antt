@@ -8,4 +8,11 @@ fields_in f = record {
   inputs = map string_bytes f.inputs.items;
   output = option_map string_bytes f.output;
   part = f.part;
+  window = f.window;
+  layout = f.layout;
+  channels = option_map (λ wanted. wanted.items) f.channels;
+  pad = f.pad;
+  fill = f.fill;
+  byte = f.byte;
+  workers = f.workers;
 }

@@ -1,38 +1,46 @@
 -- The words of a command: its name, and behind it keys with values, as in `extract in=NAME out=NAME part=NUMBER`. The
 -- keys stand in any order, each once at the most.
-use Rattle.std.specs.Prelude.{◌+◌, ◌==◌, ◌&&◌, ℕ, nat_lt, length, map, String, string_bytes, List, [], ◌∷◌, Option, Some, None, option_map, option_and_then, ok_or, Result, Err, if◌then◌else◌}
-use Rattle.std.specs.List.{before_first, after_first}
+use Rattle.std.specs.Prelude.{◌+◌, ◌&&◌, ℕ, nat_lt, length, map, String, string_bytes, List, [], ◌∷◌, Option, Some, None, option_map, option_and_then, ok_or, Result, Err, if◌then◌else◌}
 use Rattle.std.specs.declared.alloc.Global.{Global}
 use Rattle.exr_base.specs.Refusal.{◌>>=◌}
 use Rattle.exr_words.specs.declared.order.WordFault.{WordFault}
 use Rattle.exr_words.specs.declared.names.Verb.{Verb}
 use Rattle.exr_words.specs.declared.names.Verb.TheVariants.{Header, Extract}
-use Rattle.exr_words.specs.Command.{Command, header, extract, some_names}
+use Rattle.exr_words.specs.Command.{Command, Choices, header, extract, some_names}
 use Rattle.exr_words.specs.Names.{verb_of, key_of, takes}
+use Rattle.exr_words.specs.Parts.{around}
 use Rattle.exr_words.specs.Fields.{Fields, nothing, put}
 
 -- the words as texts
 abbrev pub texts_of : List (String Global) → List (List ℕ)
 texts_of words = map string_bytes words
 
--- the text before the first `=` of a word, and the text behind it; without one the first is the word and the second empty
-abbrev pub name_in : List ℕ → List ℕ
-name_in word = before_first (λ b. b == 61) word
-
-abbrev pub value_in : List ℕ → List ℕ
-value_in word = after_first (λ b. b == 61) word
-
--- the fields after one more word, where the word is allowed: its key is one of the command's, and its value is not empty
+-- the fields after one more word, where the word is allowed: it is a key of the command, `=`, which has the code 61, and
+-- a value that is not empty
 abbrev pub fields_with : Verb → Fields → List ℕ → Option Fields
 fields_with verb f word = option_and_then
-    (λ key. if takes verb key && nat_lt 0 (length (value_in word)) then put key (value_in word) f else None)
-    (key_of (name_in word))
+    (λ parts. option_and_then
+    (λ key. if takes verb key && nat_lt 0 (length parts.1) then put key parts.1 f else None)
+    (key_of parts.0))
+    (around 61 word)
+
+abbrev pub choices_in : Fields → Choices
+choices_in f = record {
+  part = f.part;
+  window = f.window;
+  layout = f.layout;
+  channels = f.channels;
+  pad = f.pad;
+  fill = f.fill;
+  byte = f.byte;
+  workers = f.workers;
+}
 
 -- what a command asks for with its fields, where it has all that it needs
 abbrev pub command_with : Verb → Fields → Option Command
 command_with Header f = option_map header (some_names f.inputs)
 command_with Extract f = option_and_then
-    (λ inputs. option_map (λ output. extract inputs output f.part) f.output)
+    (λ inputs. option_map (λ output. extract inputs output (choices_in f)) f.output)
     (some_names f.inputs)
 
 -- the fault at a place

@@ -4,10 +4,20 @@ ghost use Rattle.std.specs.Prelude.{◌≡◌, ◌&&◌, IfOk, is_none, is_some,
 ghost use Rattle.exr_words.specs.Fields.{nothing, added, put};
 ghost use Rattle.exr_words.specs.Views.{fields_in};
 
+use crate::channels::channels;
+use crate::layout::arrangement;
 use crate::names::Key;
-use crate::number::number_within;
-use exr_base::NoMemory;
+use crate::number::{byte, number_within};
+use crate::order::{Arrangement, Wanted};
+use crate::window::window;
+use exr_base::{Box2i, NoMemory};
 use std::alloc::Global;
+
+/// The most bytes of padding.
+const GREATEST_PAD: u32 = 65_535;
+
+/// The most threads that work at a time.
+const MOST_WORKERS: u32 = 16;
 
 /// The values so far.
 #[derive(Drop)]
@@ -15,6 +25,13 @@ pub(crate) struct Fields {
     pub(crate) inputs: Vec<String>,
     pub(crate) output: Option<String>,
     pub(crate) part: Option<u32>,
+    pub(crate) window: Option<Box2i>,
+    pub(crate) layout: Option<Arrangement>,
+    pub(crate) channels: Option<Vec<Wanted>>,
+    pub(crate) pad: Option<u32>,
+    pub(crate) fill: Option<u32>,
+    pub(crate) byte: Option<u8>,
+    pub(crate) workers: Option<u32>,
 }
 
 impl Fields {
@@ -26,6 +43,13 @@ impl Fields {
             inputs: Vec::new(alloc),
             output: None,
             part: None,
+            window: None,
+            layout: None,
+            channels: None,
+            pad: None,
+            fill: None,
+            byte: None,
+            workers: None,
         }
     }
 
@@ -34,10 +58,18 @@ impl Fields {
         ensures { IfOk result (λ done. put key text.now (fields_in self.old)
             ≡ (if done then Some (fields_in self.new) else None)) }
     {
+        let bytes = text.as_bytes();
         Ok(match key {
             Key::In => add(alloc, &mut self.inputs, text)?,
             Key::Out => place(&mut self.output, Some(String::from_str(alloc, text)?)),
-            Key::Part => place(&mut self.part, number_within(text, 0, u32::MAX)),
+            Key::Part => place(&mut self.part, number_within(bytes, 0, u32::MAX)),
+            Key::Window => place(&mut self.window, window(text)),
+            Key::Layout => place(&mut self.layout, arrangement(text)),
+            Key::Channels => place(&mut self.channels, channels(alloc, text)?),
+            Key::Pad => place(&mut self.pad, number_within(bytes, 0, GREATEST_PAD)),
+            Key::Fill => place(&mut self.fill, number_within(bytes, 0, u32::MAX)),
+            Key::Byte => place(&mut self.byte, byte(bytes)),
+            Key::Workers => place(&mut self.workers, number_within(bytes, 1, MOST_WORKERS)),
         })
     }
 }

@@ -16,6 +16,13 @@ pub(crate) enum Key {
     In,
     Out,
     Part,
+    Window,
+    Layout,
+    Channels,
+    Pad,
+    Fill,
+    Byte,
+    Workers,
 }
 
 /// The command of a name.
@@ -38,7 +45,28 @@ pub(crate) fn key_of(name: &str) -> Option<Key>
     if name == "out" {
         return Some(Key::Out);
     }
-    (name == "part").then_some(Key::Part)
+    if name == "part" {
+        return Some(Key::Part);
+    }
+    if name == "window" {
+        return Some(Key::Window);
+    }
+    if name == "layout" {
+        return Some(Key::Layout);
+    }
+    if name == "channels" {
+        return Some(Key::Channels);
+    }
+    if name == "pad" {
+        return Some(Key::Pad);
+    }
+    if name == "fill" {
+        return Some(Key::Fill);
+    }
+    if name == "byte" {
+        return Some(Key::Byte);
+    }
+    (name == "workers").then_some(Key::Workers)
 }
 
 /// Whether a command takes a key.

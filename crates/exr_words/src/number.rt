@@ -25,12 +25,19 @@ fn number(text: &[u8]) -> Option<u128>
 }
 
 /// The number that 1 to 20 digits write, from `least` to `most`.
-pub(crate) fn number_within(text: &str, least: u32, most: u32) -> Option<u32>
+pub(crate) fn number_within(text: &[u8], least: u32, most: u32) -> Option<u32>
     ensures { result ≡ number_within least most text.now }
 {
-    let number = number(text.as_bytes())?;
+    let number = number(text)?;
     if number < u128::from(least) || number > u128::from(most) {
         return None;
     }
     Some(number as u32)
+}
+
+/// The number of a byte.
+pub(crate) fn byte(text: &[u8]) -> Option<u8>
+    ensures { result ≡ number_within 0 255 text.now }
+{
+    u8::try_from(number_within(text, 0, 255)?).ok()
 }

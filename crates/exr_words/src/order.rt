@@ -3,6 +3,7 @@
 ghost use Rattle.std.specs.Prelude.{◌≡◌, ◌≤◌, List, length, map, option_map, string_bytes};
 ghost use Rattle.exr_words.specs.Command.{first_of, some_names};
 
+use exr_base::{Box2i, Kind, Name};
 use std::marker::Model;
 use thiserror::Error;
 
@@ -49,6 +50,26 @@ impl Inputs {
     }
 }
 
+/// How the samples of channels are arranged in a buffer (own).
+#[derive(Clone, Copy, Debug, PartialEq, Eq)]
+pub enum Arrangement {
+    /// A plane for each channel, one behind the other.
+    Planar,
+    /// The lines of the channels, one behind the other, line by line.
+    Lines,
+    /// The samples of the channels side by side, pixel by pixel.
+    Pixels,
+}
+
+/// A channel that is wanted (own).
+#[derive(Drop, Debug)]
+pub struct Wanted {
+    /// Its name, without comma and colon.
+    pub name: Name,
+    /// Its kind, where it was given.
+    pub kind: Option<Kind>,
+}
+
 /// What the words ask for. The field of an optional key is None where the key was not given.
 #[derive(Drop, Debug)]
 pub enum Order {
@@ -62,5 +83,18 @@ pub enum Order {
         output: String,
         /// The part's number, counted from 0.
         part: Option<u32>,
+        /// The pixels, each coordinate within 2^30 of zero. It may be empty, and lie anywhere.
+        window: Option<Box2i>,
+        layout: Option<Arrangement>,
+        /// 1 to 1,024 channels in their order, whether the part has them or not.
+        channels: Option<Vec<Wanted>>,
+        /// Bytes behind each line or pixel, at most 65,535.
+        pad: Option<u32>,
+        /// The bits of the samples of channels that the part lacks.
+        fill: Option<u32>,
+        /// What each byte of the buffer begins as.
+        byte: Option<u8>,
+        /// How many threads work, 1 to 16.
+        workers: Option<u32>,
     },
 }

@@ -4,6 +4,7 @@ ghost use Rattle.std.specs.Prelude.{◌≡◌, ◌+◌, ◌^◌, ◌<◌, IfOk, 
 ghost use Rattle.exr_base.specs.Refusal.{Gives};
 ghost use Rattle.exr_words.specs.Command.{command_in};
 ghost use Rattle.exr_words.specs.Fields.{nothing};
+ghost use Rattle.exr_words.specs.Limits.{IsWithin};
 ghost use Rattle.exr_words.specs.Words.{texts_of, fields_with, command_with, or_fault_at, read_from, command_of};
 ghost use Rattle.exr_words.specs.Views.{fields_in};
 
@@ -15,12 +16,16 @@ use std::alloc::Global;
 
 /// What the words ask for, or the position of the first that is not allowed.
 ///
-/// `header in=NAME`, or `extract in=NAME out=NAME part=NUMBER`, where the number may be left out. Behind the command the
-/// keys stand in any order, each once at the most, and no value is empty. A number has 1 to 20 digits; that of a part is
-/// below 2^32.
+/// The first word is the command, each other one a key, `=` and a value that is not empty: `header in=NAME`, or
+/// `extract in=NAME out=NAME`, which may have the keys `part=NUMBER` below 2^32, `window=X0,Y0,X1,Y1` of numbers up to
+/// 2^30 that may have a `-`, `layout=planar|lines|pixels`, `channels=NAME,NAME:uint|half|float` of 1 to 1,024 names,
+/// `pad=NUMBER` up to 65,535, `fill=NUMBER` below 2^32, `byte=NUMBER` up to 255 and `workers=NUMBER` from 1 to 16. The
+/// keys stand in any order, each once at the most. A number has 1 to 20 digits; the name of a channel has 1 to 255 bytes,
+/// none of them a comma, a colon or zero.
 pub fn read_words(alloc: Global, words: &[String]) -> Result<Order, Refusal<WordFault>>
     requires { length words.now < 2 ^ 32 }
-    ensures { Gives command_in result (command_of (texts_of words.now)) }
+    ensures exact { Gives command_in result (command_of (texts_of words.now)) }
+    ensures within { IfOk result (λ order. IsWithin (command_in order)) }
 {
     let Some((command, keys)) = words.split_first() else {
         return Err(Refusal::Fault(WordFault { position: 0 }));
@@ -99,6 +104,13 @@ fn order(verb: Verb, fields: Fields) -> Option<Order>
             inputs,
             output: fields.output?,
             part: fields.part,
+            window: fields.window,
+            layout: fields.layout,
+            channels: fields.channels,
+            pad: fields.pad,
+            fill: fields.fill,
+            byte: fields.byte,
+            workers: fields.workers,
         },
     })
 }
