@@ -1,0 +1,12 @@
+-- The numbers of faults (own).
+use Rattle.std.specs.Prelude.{ℕ}
+use Rattle.exr_request.specs.declared.fault.RequestFault.{RequestFault}
+use Rattle.exr_request.specs.declared.fault.RequestFault.TheVariants.{NoPart, Window, Mixed, Layout, TooLarge, Match}
+
+abbrev pub request_number_of : RequestFault → ℕ
+request_number_of NoPart = 1
+request_number_of Window = 3
+request_number_of (Mixed slice) = 4
+request_number_of (Layout fault) = 5
+request_number_of TooLarge = 6
+request_number_of (Match fault) = 7
