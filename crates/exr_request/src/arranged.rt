@@ -1,6 +1,6 @@
 //! Planes for the samples of channels, in each of the ways to arrange them, and the bytes of their buffer.
 
-ghost use Rattle.std.specs.Prelude.{◌≡◌, ◌≤◌, ◌+◌, ◌^◌, length, map, All, sum_by, IfOk};
+ghost use Rattle.std.specs.Prelude.{◌≡◌, ◌≤◌, ◌^◌, [], ◌∷◌, length, map, All, sum_by, IfOk};
 ghost use Rattle.exr_base.specs.Shape.{IsRegion, IsSampled};
 ghost use Rattle.exr_words.specs.declared.order.Arrangement.TheVariants as arrangement;
 ghost use Rattle.exr_request.specs.Arranged.{kind_bytes, row_bytes, plain_run, plain_plane, behind, slice_for, run_for, plane_for, line_plane, pixel_run, pixel_plane, planes_for, end_behind};
