@@ -1,0 +1,47 @@
+-- What a request is answered is determined by the head and by what is asked: one fault, and either a fault or a frame.
+use Rattle.std.proofs.Common.{◌≡◌, ◌⊎◌, Ok, Err, sym, ap, ◌∙◌, subst, inl, inr}
+use Rattle.exr_judge.specs.declared.header.Header.{Header}
+use Rattle.exr_header.specs.Head.{Head}
+use Rattle.exr_frame.specs.declared.plan.Plan.{Plan}
+use Rattle.exr_frame.specs.Judging.{Frame}
+use Rattle.exr_request.specs.declared.fault.RequestStop.{RequestStop}
+use Rattle.exr_request.specs.Demand.{Demand}
+use Rattle.exr_request.specs.Request.{IsArranged, part_asked, frame_tested, IsFit, IsUnfit, IsGranted, IsRefused}
+use Rattle.exr_request.proofs.Alike.{AreAlike, tested_alike}
+
+-- two frames that are arranged as it is asked for say the same
+pub arranged_alike : (d : Demand) (h : Header) (f g : Frame) → IsArranged d h f → IsArranged d h g → AreAlike f g
+arranged_alike d h f g a b = record {
+  planes = a.planes ∙ sym b.planes;
+  window = a.window ∙ sym b.window;
+  buffer = a.buffer ∙ sym b.buffer;
+}
+
+one_unfit : (d : Demand) (h : Header) (a b : RequestStop) → IsUnfit d h a → IsUnfit d h b → a ≡ b
+one_unfit d h a b u v =
+    let same = tested_alike h u.frame v.frame (arranged_alike d h u.frame v.frame u.arranged v.arranged) in
+    let x = u.tested in
+    let y = v.tested in
+    cc
+
+not_fit : (d : Demand) (h : Header) (f : Frame) (plan : Plan) (stop : RequestStop) → IsFit d h f plan → IsUnfit d h stop → ⊥
+not_fit d h f plan stop fit u =
+    let same = tested_alike h f u.frame (arranged_alike d h f u.frame fit.arranged u.arranged) in
+    let x = fit.tested in
+    let y = u.tested in
+    absurd (cc)
+
+pub one_refusal : (head : Head) (d : Demand) (a b : RequestStop) → IsRefused head d a → IsRefused head d b → a ≡ b
+one_refusal head d a b (inl x) (inl y) = cc
+one_refusal head d a b (inl x) (inr (part, asked, v)) = absurd (cc)
+one_refusal head d a b (inr (part, asked, u)) (inl y) = absurd (cc)
+one_refusal head d a b (inr (part, asked, u)) (inr (other, also, v)) =
+    let same : other ≡ part = cc in
+    one_unfit d part a b u (subst (λ (h : Header). IsUnfit d h b) same v)
+
+pub not_both : (head : Head) (d : Demand) (f : Frame) (plan : Plan) (stop : RequestStop) → IsGranted head d f plan → IsRefused head d stop → ⊥
+not_both head d f plan stop granted (inl x) = let y = granted.asked in absurd (cc)
+not_both head d f plan stop granted (inr (part, asked, u)) =
+    let also = granted.asked in
+    let same : part ≡ granted.part = cc in
+    not_fit d granted.part f plan stop granted.fit (subst (λ (h : Header). IsUnfit d h stop) same u)
