@@ -1,6 +1,6 @@
 -- Frames that say the same are judged and matched alike, wherever their slices and runs are kept in memory.
 use Rattle.std.proofs.Common.{◌≡◌, ◌==◌, ◌+◌, ◌-◌, ◌^◌, nat_lt, ℕ, Bool, true, false, cond, not, ◌||◌, List, [], ◌∷◌, ◌++◌, length, map, Option, Some, None, Result, Ok, Err, refl, sym, ap, ◌∙◌}
-use Rattle.std.specs.List.{flat_map, list_any, position, position_or_len, prefix_len}
+use Rattle.std.specs.List.{flat_map, list_any, position, position_or_len}
 use Rattle.std.proofs.lemmas.List.{length-map}
 use Rattle.std.proofs.lemmas.List.Folds.{flat_map-map}
 use Rattle.exr_base.specs.declared.shape.Box2i.{Box2i}
@@ -14,14 +14,14 @@ use Rattle.exr_frame.specs.declared.spot.Spot.{Spot}
 use Rattle.exr_frame.specs.declared.fault.LayoutFault.{LayoutFault}
 use Rattle.exr_frame.specs.declared.fault.LayoutFault.TheVariants.{Empty, Huge, ZeroSampling, Overlap, ShortStride, OutOfBuffer}
 use Rattle.exr_frame.specs.declared.fault.MatchFault.TheVariants.{WindowOutside}
-use Rattle.exr_frame.specs.Judging.{Frame, is_empty_run, is_empty_plane, is_huge, is_huge_slice, is_huge_run, is_huge_plane, refused_at, names_judged, judged, slices_judged, end_of, run_judged, runs_judged, samplings_judged, plane_judged, planes_judged, frame_judged, slices_of_runs, slices_of_plane, slices_of}
-use Rattle.exr_frame.specs.Place.{spot_of, spots_of_run, spots_of_plane, spots_of}
+use Rattle.exr_frame.specs.Judging.{Frame, is_empty_run, is_empty_plane, is_huge, is_huge_slice, is_huge_run, is_huge_plane, refused_at, names_judged, judged, slices_judged, end_of, run_judged, runs_judged, samplings_judged, plane_judged, planes_judged, frame_judged, slices_of_plane, slices_of}
+use Rattle.exr_frame.specs.Place.{spots_of_plane, spots_of}
 use Rattle.exr_frame.specs.Plan.{is_inside, slices_matched, part_matched}
 use Rattle.exr_request.specs.declared.fault.RequestStop.{RequestStop}
 use Rattle.exr_request.specs.declared.fault.RequestStop.TheVariants.{Fault}
 use Rattle.exr_request.specs.declared.fault.RequestFault.TheVariants.{TooLarge}
 use Rattle.exr_request.specs.Arranged.{PlainRun, PlainPlane, plain_run, plain_plane}
-use Rattle.exr_request.specs.Request.{stops, layout_stops, match_stops, layout_tested, frame_tested}
+use Rattle.exr_request.specs.Request.{stops, layout_stops, match_stops, frame_tested}
 use Rattle.exr_request.proofs.Fits.{plain_run_slices, plain_slices, same_run_slices, same_slices}
 
 -- ---- lists of which a view is the same
@@ -104,8 +104,8 @@ runs_same window n ended (r ∷ rs) (s ∷ ss) e =
     let h = heads_same plain_run r s rs ss e in
     let count : length r.slices.items ≡ length s.slices.items = ap (λ (x : PlainRun). length x.slices) h.0 in
     bind_same (run_judged window n ended r) (run_judged window n ended s) (λ ends. runs_judged window (n + length r.slices.items) ends rs) (λ ends. runs_judged window (n + length s.slices.items) ends ss)
-      (run_same window n ended r s h.0)
-      (λ ends. ap (λ (k : ℕ). runs_judged window (n + k) ends rs) count ∙ runs_same window (n + length s.slices.items) ends rs ss h.1)
+    (run_same window n ended r s h.0)
+    (λ ends. ap (λ (k : ℕ). runs_judged window (n + k) ends rs) count ∙ runs_same window (n + length s.slices.items) ends rs ss h.1)
 
 samplings_same : (n : ℕ) (rs ss : List Run) → map plain_run rs ≡ map plain_run ss → samplings_judged n rs ≡ samplings_judged n ss
 unfolding samplings_judged
@@ -116,8 +116,8 @@ samplings_same n (r ∷ rs) (s ∷ ss) e =
     let h = heads_same plain_run r s rs ss e in
     let count : length r.slices.items ≡ length s.slices.items = ap (λ (x : PlainRun). length x.slices) h.0 in
     bind_same (judged (r.sampling == 0) (ZeroSampling n) 0) (judged (s.sampling == 0) (ZeroSampling n) 0) (λ (each : ℕ). samplings_judged (n + length r.slices.items) rs) (λ (each : ℕ). samplings_judged (n + length s.slices.items) ss)
-      (ap (λ (x : PlainRun). judged (x.sampling == 0) (ZeroSampling n) 0) h.0)
-      (λ each. ap (λ (k : ℕ). samplings_judged (n + k) rs) count ∙ samplings_same (n + length s.slices.items) rs ss h.1)
+    (ap (λ (x : PlainRun). judged (x.sampling == 0) (ZeroSampling n) 0) h.0)
+    (λ each. ap (λ (k : ℕ). samplings_judged (n + k) rs) count ∙ samplings_same (n + length s.slices.items) rs ss h.1)
 
 -- a plane is judged by its own numbers, by its runs and by how many slices it has
 plane_by : Box2i → ℕ → ℕ → ℕ → PlainPlane → Result ℕ LayoutFault → Result ℕ LayoutFault → ℕ → Result ℕ LayoutFault
@@ -159,8 +159,8 @@ planes_same window buffer n ended (p ∷ ps) [] e = absurd (cc)
 planes_same window buffer n ended (p ∷ ps) (q ∷ qs) e =
     let h = heads_same plain_plane p q ps qs e in
     bind_same (plane_judged window buffer n ended p) (plane_judged window buffer n ended q) (λ ends. planes_judged window buffer (n + length (slices_of_plane p)) ends ps) (λ ends. planes_judged window buffer (n + length (slices_of_plane q)) ends qs)
-      (plane_same window buffer n ended p q h.0)
-      (λ ends. ap (λ (k : ℕ). planes_judged window buffer (n + k) ends ps) (count_same p q h.0) ∙ planes_same window buffer (n + length (slices_of_plane q)) ends ps qs h.1)
+    (plane_same window buffer n ended p q h.0)
+    (λ ends. ap (λ (k : ℕ). planes_judged window buffer (n + k) ends ps) (count_same p q h.0) ∙ planes_same window buffer (n + length (slices_of_plane q)) ends ps qs h.1)
 
 -- ---- frames
 
@@ -189,9 +189,9 @@ judged_alike f g alike =
     ∙ ap (λ (x : Option ℕ). frame_by (position is_empty_plane g.planes) x (slices_of f.planes) pf) (position_same plain_plane is_huge_plane huge_plane_same f.planes g.planes alike.planes)
     ∙ ap (λ (x : List Slice). frame_by (position is_empty_plane g.planes) (position is_huge_plane g.planes) x pf) (slices_same f.planes g.planes alike.planes)
     ∙ ap (frame_by (position is_empty_plane g.planes) (position is_huge_plane g.planes) (slices_of g.planes))
-        (ap (λ (w : Box2i). planes_judged w f.buffer 0 0 f.planes) alike.window
-        ∙ ap (λ (b : ℕ). planes_judged g.window b 0 0 f.planes) alike.buffer
-        ∙ planes_same g.window g.buffer 0 0 f.planes g.planes alike.planes)
+    (ap (λ (w : Box2i). planes_judged w f.buffer 0 0 f.planes) alike.window
+    ∙ ap (λ (b : ℕ). planes_judged g.window b 0 0 f.planes) alike.buffer
+    ∙ planes_same g.window g.buffer 0 0 f.planes g.planes alike.planes)
     ∙ sym (frame_judged_by g)
 
 -- ---- slices with all that says where their samples stand
@@ -240,7 +240,7 @@ matched_alike h f g alike =
     ∙ ap (λ (l : List Spot). cond (is_inside g.window h.window) (slices_matched h.channels 0 l) (Err WindowOutside)) (spots_alike f g alike)
 
 -- a frame is tested by how it is judged, by its size and by how it is matched
-pub tested_by : Result ℕ LayoutFault → ℕ → Result (List (Option ℕ)) RequestStop → Result (List (Option ℕ)) RequestStop
+unfoldable pub tested_by : Result ℕ LayoutFault → ℕ → Result (List (Option ℕ)) RequestStop → Result (List (Option ℕ)) RequestStop
 tested_by judgement buffer matched = do
   ends ← layout_stops judgement
   small ← stops (nat_lt (2 ^ 30) buffer) (Fault TooLarge)

@@ -1,3 +1,5 @@
 pub mod Alike
 pub mod Fits
 pub mod Once
+pub mod Passed
+pub mod Places

@@ -1,12 +1,12 @@
 -- What a request is answered is determined by the head and by what is asked: one fault, and either a fault or a frame.
-use Rattle.std.proofs.Common.{◌≡◌, ◌⊎◌, Ok, Err, sym, ap, ◌∙◌, subst, inl, inr}
+use Rattle.std.proofs.Common.{◌≡◌, sym, ◌∙◌, subst, inl, inr}
 use Rattle.exr_judge.specs.declared.header.Header.{Header}
 use Rattle.exr_header.specs.Head.{Head}
 use Rattle.exr_frame.specs.declared.plan.Plan.{Plan}
 use Rattle.exr_frame.specs.Judging.{Frame}
 use Rattle.exr_request.specs.declared.fault.RequestStop.{RequestStop}
 use Rattle.exr_request.specs.Demand.{Demand}
-use Rattle.exr_request.specs.Request.{IsArranged, part_asked, frame_tested, IsFit, IsUnfit, IsGranted, IsRefused}
+use Rattle.exr_request.specs.Request.{IsArranged, IsFit, IsUnfit, IsGranted, IsRefused}
 use Rattle.exr_request.proofs.Alike.{AreAlike, tested_alike}
 
 -- two frames that are arranged as it is asked for say the same

@@ -7,6 +7,7 @@ mod arranged;
 mod asked;
 mod chosen;
 mod fault;
+mod law;
 mod sizes;
 #[cfg(test)]
 mod tests;
@@ -14,3 +15,4 @@ mod tests;
 pub use answer::{Granted, request};
 pub use asked::Asked;
 pub use fault::{RequestFault, RequestStop};
+pub use law::{each_arrangement_has_one_meaning, each_request_has_one_answer};
