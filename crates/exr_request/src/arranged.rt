@@ -190,14 +190,14 @@ fn pixels(
 {
     let (slices, bytes) = pixel_slices(alloc, channels, fill)?;
     let (columns, rows) = first_samplings(channels);
-    let stride = bytes + u64::from(pad);
+    let pixel = bytes + u64::from(pad);
     let run = Run {
         at: 0,
-        stride,
+        stride: pixel,
         sampling: columns,
         slices,
     };
-    let row = columns_of(window, columns) * stride;
+    let row = columns_of(window, columns) * pixel;
     let plane = Plane {
         base: 0,
         stride: row,
