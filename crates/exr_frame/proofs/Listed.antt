@@ -1,10 +1,10 @@
 -- Slices by number and by name, through the runs and the planes that list them.
-use Rattle.std.proofs.Common.{◌≡◌, ◌≢◌, Bor, ◌+◌, ◌-◌, ◌^◌, ◌<◌, ◌≤◌, ℕ, zero, suc, Bool, true, false, cond, not, List, [], ◌∷◌, ◌++◌, length, take, drop, get_or, Option, Some, None, Result, Ok, Err, refl, sym, ap, ◌∙◌, subst, inl, inr, arith, eqb, ltb}
+use Rattle.std.proofs.Common.{◌≡◌, Bor, ◌+◌, ◌-◌, ◌^◌, ◌<◌, ◌≤◌, ℕ, zero, suc, Bool, true, false, cond, not, List, [], ◌∷◌, ◌++◌, length, take, drop, get_or, Option, Some, None, Ok, Err, refl, sym, ap, ◌∙◌, inl, inr, arith, eqb, ltb}
 use Rattle.std.specs.Option.{option_copied}
-use Rattle.std.specs.List.{flat_map, position, position_or_len, prefix_len, slice_get}
+use Rattle.std.specs.List.{flat_map, position, position_or_len, slice_get}
 use Rattle.std.proofs.lemmas.Bool.{lt-ltb, le-ltb, cases_lt}
 use Rattle.std.proofs.lemmas.Bool.Decides.{nat_tests}
-use Rattle.std.proofs.lemmas.List.{at_drop_more, at_drop_all, drop_more, take_more, length-take-le, length-append, take-append-drop}
+use Rattle.std.proofs.lemmas.List.{at_drop_more, at_drop_all, take_more, length-take-le, take-append-drop}
 use Rattle.std.proofs.lemmas.List.Concat.{flat_map-append}
 use Rattle.std.proofs.lemmas.List.Folds.{prefix_len-append}
 use Rattle.std.proofs.lemmas.List.Sums.{prefix_len-le-length}
@@ -12,7 +12,6 @@ use Rattle.exr_base.specs.Refusal.{◌>>=◌}
 use Rattle.exr_frame.specs.declared.planes.Slice.{Slice}
 use Rattle.exr_frame.specs.declared.planes.Run.{Run}
 use Rattle.exr_frame.specs.declared.planes.Plane.{Plane}
-use Rattle.exr_frame.specs.declared.fault.LayoutFault.{LayoutFault}
 use Rattle.exr_frame.specs.declared.fault.LayoutFault.TheVariants.{TwiceChannel}
 use Rattle.std.proofs.lemmas.Option.{slice_get_read}
 use Rattle.exr_frame.proofs.Counted.{planes_within}

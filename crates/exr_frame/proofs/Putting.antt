@@ -1,12 +1,12 @@
 -- Bytes put one list after another.
-use Rattle.std.proofs.Common.{◌≡◌, ◌≢◌, ◌+◌, ◌-◌, ◌*◌, ◌^◌, ◌/◌, ◌%◌, ap₂, ◌<◌, ◌≤◌, ◌⊎◌, ℕ, zero, suc, List, [], ◌∷◌, ◌++◌, length, get_or, take, drop, refl, sym, ap, ◌∙◌, subst, inl, inr, arith, slice_index}
+use Rattle.std.proofs.Common.{◌≡◌, ◌≢◌, ◌+◌, ◌-◌, ◌*◌, ◌^◌, ◌/◌, ◌%◌, ap₂, ◌<◌, ◌≤◌, ◌⊎◌, ℕ, List, ◌++◌, length, take, drop, refl, sym, ap, ◌∙◌, inl, inr, arith, slice_index}
 use borrow.Rule.Slice.PartMut.{put_mid}
 use Rattle.std.proofs.Math.ListN.{set}
 use Rattle.std.proofs.lemmas.Bool.{cases_lt}
 use Rattle.std.proofs.lemmas.Nat.{mul-le, div-add-mod', mod_below, div_below}
 use Rattle.std.proofs.lemmas.List.{get_or-set_same, get_or-set_other, length-set, length-take-le, get_or-append_right, get_or_append_left, get_or-take, get_or-drop, drop-drop}
 use Rattle.exr_frame.specs.Put.{IsPut}
-use Rattle.exr_frame.specs.Rows.{IsOfRow, row_place, sample_byte, fill_byte}
+use Rattle.exr_frame.specs.Rows.{IsOfRow, row_place, sample_byte}
 
 -- nothing was put
 pub put_none : {K : Type 0} (which : K → Type 0) (place value : K → ℕ) (l : List ℕ) → ((k : K) → which k → ⊥) → IsPut which place value l l

@@ -1,5 +1,5 @@
 -- The tests in loops: what is left of a list is judged behind what was judged before.
-use Rattle.std.proofs.Common.{◌≡◌, ◌+◌, ◌-◌, ◌<◌, ◌≤◌, ℕ, Bool, true, false, cond, List, [], ◌∷◌, length, drop, get_or, Result, Ok, Err, refl, sym, ap, ◌∙◌, arith, eqb, ltb}
+use Rattle.std.proofs.Common.{◌≡◌, ◌+◌, ◌-◌, ◌<◌, ◌≤◌, ℕ, Bool, true, false, List, ◌∷◌, length, drop, get_or, Result, Ok, Err, sym, ap, ◌∙◌, eqb, ltb}
 use Rattle.std.proofs.lemmas.Bool.{lt-ltb, le-ltb}
 use Rattle.std.proofs.lemmas.List.{at_drop_more, at_drop_all}
 use Rattle.exr_base.specs.declared.shape.Box2i.{Box2i}
@@ -8,7 +8,7 @@ use Rattle.exr_frame.specs.declared.planes.Slice.{Slice}
 use Rattle.exr_frame.specs.declared.planes.Run.{Run}
 use Rattle.exr_frame.specs.declared.planes.Plane.{Plane}
 use Rattle.exr_frame.specs.declared.fault.LayoutFault.{LayoutFault}
-use Rattle.exr_frame.specs.declared.fault.LayoutFault.TheVariants.{Empty, Huge, TwiceChannel, ZeroSampling, Overlap, ShortStride, OutOfBuffer}
+use Rattle.exr_frame.specs.declared.fault.LayoutFault.TheVariants.{ZeroSampling, Overlap}
 use Rattle.exr_frame.specs.Judging.{judged, slice_end, slices_judged, run_judged, runs_judged, samplings_judged, plane_judged, planes_judged, slices_of_plane}
 
 -- the rest begins with an element that was read

@@ -1,19 +1,23 @@
 -- A row put along a strip is the row of a slice.
-use Rattle.std.proofs.Common.{get_or, ◌≡◌, ◌+◌, ◌-◌, ◌*◌, ◌/◌, ◌%◌, ◌^◌, ◌<◌, ◌≤◌, ℕ, ℤ, List, length, take, drop, refl, sym, ap, ap₂, ◌∙◌, subst, arith, slice_index}
+use Rattle.std.proofs.Common.{get_or, ◌≡◌, ◌+◌, ◌-◌, ◌*◌, ◌/◌, ◌%◌, ◌^◌, ◌<◌, ◌≤◌, ℕ, ℤ, List, length, take, drop, sym, ap, ap₂, ◌∙◌, subst, arith, slice_index, ◌≤ℤ◌, Bool, true, false, ◌&&◌}
+use Rattle.std.specs.Prelude.{int_le}
+use Rattle.std.proofs.lemmas.Int.{ints}
 use Rattle.std.proofs.lemmas.List.{get_or-take, get_or-drop, get_or_default}
 use Rattle.std.proofs.lemmas.Nat.{mul-le}
 use Rattle.exr_base.specs.declared.shape.Box2i.{Box2i}
 use Rattle.exr_base.specs.Channel.{bytes_of}
-use Rattle.exr_base.specs.Sampling.{sample_count_of}
+use Rattle.exr_base.specs.Sampling.{is_multiple, sample_count_of}
 use Rattle.exr_frame.specs.declared.planes.Plane.{Plane}
 use Rattle.exr_frame.specs.declared.spot.Spot.{Spot}
 use Rattle.exr_frame.specs.declared.strip.Strip.{Strip}
 use Rattle.exr_frame.specs.Judging.{Frame}
 use Rattle.exr_frame.specs.Place.{spots_of, spot_at, no_spot, count_before, place_of, Byte}
+use Rattle.exr_frame.specs.Plan.{is_side_inside}
 use Rattle.exr_frame.specs.Put.{IsPut}
-use Rattle.exr_frame.specs.Rows.{IsOfRow, row_place, sample_byte, fill_byte, IsInRow, IsLineOf, IsStrip, HasNone, line_byte, filled_byte, low_of, high_of}
+use Rattle.exr_frame.specs.Rows.{IsOfRow, row_place, sample_byte, fill_byte, IsInRow, IsLineOf, IsStrip, HasNone, line_byte, filled_byte, low_of, has_line}
+use Rattle.exr_frame.proofs.Matched.{and_left, and_right}
 use Rattle.exr_frame.proofs.Putting.{put_again, put_none}
-use Rattle.exr_frame.proofs.Strips.{Along, along, Found, found}
+use Rattle.exr_frame.proofs.Strips.{along, found}
 
 -- a slice's bytes along a strip, whatever they are
 pub along_strip : (f : Frame) (region : Box2i) (s : ℕ) (y : ℤ) (strip : Strip) (value : ℕ × ℕ → ℕ) (value' : Byte → ℕ) (old new : List ℕ)
@@ -42,10 +46,10 @@ along_strip f region s y strip value value' old new line st same p =
     ))
     p
 
-part_at : (row : List ℕ) (from count i : ℕ) → i < count → slice_index (take count (drop from row)) i ≡ slice_index row (from + i)
+pub part_at : (row : List ℕ) (from count i : ℕ) → i < count → slice_index (take count (drop from row)) i ≡ slice_index row (from + i)
 part_at row from count i h = get_or-take count (drop from row) i 0 h ∙ get_or-drop from row i 0
 
-sample_small : (c n b size : ℕ) → c < n → b < size → c * size + b < n * size
+pub sample_small : (c n b size : ℕ) → c < n → b < size → c * size + b < n * size
 sample_small c n b size h k = let p = mul-le (c + 1) size n size (omega arith) (omega arith) in omega arith
 
 joined_at : (skip c size b : ℕ) → skip * size + (c * size + b) ≡ (skip + c) * size + b
@@ -74,6 +78,9 @@ row_put f region s y strip row from old new line st e p =
 -- the spot that a plan has of a slice
 pub spot_here : (spots : List Spot) (planes : List Plane) (s : ℕ) (x : Spot) → spots ≡ spots_of planes → s < length (spots_of planes) → x ≡ get_or spots s x → x ≡ spot_at (spots_of planes) s
 spot_here spots planes s x e lt is = is ∙ ap (λ (l : List Spot). get_or l s x) e ∙ get_or_default (spots_of planes) s x no_spot lt
+
+pub spot_found : (spots : List Spot) (planes : List Plane) (s : ℕ) (x : Spot) → spots ≡ spots_of planes → s < length spots → x ≡ get_or spots s x → x ≡ spot_at (spots_of planes) s
+spot_found spots planes s x e lt is = spot_here spots planes s x e (subst (λ (l : List Spot). s < length l) e lt) is
 
 -- the same, of a slice by its spot
 pub spot_row_put : (f : Frame) (region : Box2i) (s : ℕ) (y : ℤ) (strip : Strip) (x : Spot) (row from old new : List ℕ) → IsLineOf f region s y → IsStrip f region s y strip → x ≡ spot_at (spots_of f.planes) s
@@ -120,3 +127,34 @@ spot_fill_put f region s y strip x old new line st is =
     let P : Spot → Type 0 = λ (x : Spot). IsPut (IsOfRow strip.samples (bytes_of x.kind)) (row_place strip.at x.stride) (fill_byte x.fill) old new
     → IsPut (IsInRow f.window (spots_of f.planes) region s y) (place_of f.window (spots_of f.planes)) (filled_byte (spots_of f.planes)) old new in
     subst P (sym is) (λ p. fill_put f region s y strip old new line st p)
+
+-- ---- lines of a slice
+
+lies : (y low high : ℤ) → is_side_inside y y low high ≡ true → (low ≤ℤ y) × (y ≤ℤ high)
+lies y low high h =
+    let l = and_left (int_le low y) (int_le y high) h in
+    let r = and_right (int_le low y) (int_le y high) h in
+    (grind (arith, ints), grind (arith, ints))
+
+from_both : (a b : Bool) → a ≡ true → b ≡ true → (a && b) ≡ true
+from_both a b e h = ap₂ (λ (x y : Bool). x && y) e h
+
+within_side : (y low high : ℤ) → low ≤ℤ y → y ≤ℤ high → is_side_inside y y low high ≡ true
+within_side y low high h k = from_both (int_le low y) (int_le y high) (grind (arith, ints)) (grind (arith, ints))
+
+-- on a line that a slice does not have, it has no samples
+pub none_on_line : (f : Frame) (region : Box2i) (s : ℕ) (y : ℤ) → has_line f s y ≡ false → HasNone f region s y
+none_on_line f region s y none k w =
+    let top : f.window.y0 ≤ℤ y = subst (λ (z : ℤ). f.window.y0 ≤ℤ z) w.line w.named.within.top in
+    let bottom : y ≤ℤ f.window.y1 = subst (λ (z : ℤ). z ≤ℤ f.window.y1) w.line w.named.within.bottom in
+    let multiple : is_multiple (spot_at (spots_of f.planes) s).row_sampling y ≡ true =
+    ap₂ (λ (t : ℕ) (z : ℤ). is_multiple (spot_at (spots_of f.planes) t).row_sampling z) (sym w.slice) (sym w.line) ∙ w.named.line in
+    let here = from_both (is_side_inside y y f.window.y0 f.window.y1) (is_multiple (spot_at (spots_of f.planes) s).row_sampling y) (within_side y f.window.y0 f.window.y1 top bottom) multiple in
+    cc
+
+pub line_held : (f : Frame) (region : Box2i) (s : ℕ) (y : ℤ) → s < length (spots_of f.planes) → has_line f s y ≡ true → region.y0 ≤ℤ y → y ≤ℤ region.y1 → IsLineOf f region s y
+line_held f region s y lt here above below =
+    let inside = is_side_inside y y f.window.y0 f.window.y1 in
+    let multiple = is_multiple (spot_at (spots_of f.planes) s).row_sampling y in
+    let l = lies y f.window.y0 f.window.y1 (and_left inside multiple here) in
+    record { slice = lt; line = and_right inside multiple here; top = l.0; bottom = l.1; above = above; below = below }

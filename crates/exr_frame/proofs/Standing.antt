@@ -1,5 +1,5 @@
 -- In a lawful layout each byte has a place of its own in the buffer.
-use Rattle.std.proofs.Common.{◌≡◌, ◌+◌, ◌-◌, ◌*◌, ◌<◌, ◌≤◌, ℕ, zero, suc, ℤ, Bool, true, false, cond, List, [], ◌∷◌, ◌++◌, length, get_or, map, Result, Ok, Err, refl, sym, ap, ap₂, ◌∙◌, subst, inl, inr, arith, ltb, eqb}
+use Rattle.std.proofs.Common.{◌≡◌, ◌+◌, ◌-◌, ◌*◌, ◌<◌, ◌≤◌, ℕ, zero, suc, ℤ, Bool, true, false, List, [], ◌∷◌, length, map, Ok, refl, sym, ap, ap₂, ◌∙◌, subst, inl, inr, arith, ltb, eqb}
 use Rattle.std.specs.List.{flat_map, position}
 use Rattle.std.proofs.lemmas.Bool.{cases_lt, ltb-false}
 use Rattle.std.proofs.lemmas.List.{length-append, get_or_append_left, get_or-append_right}
@@ -12,9 +12,9 @@ use Rattle.exr_frame.specs.declared.planes.Run.{Run}
 use Rattle.exr_frame.specs.declared.planes.Plane.{Plane}
 use Rattle.exr_frame.specs.declared.spot.Spot.{Spot}
 use Rattle.exr_frame.specs.declared.fault.LayoutFault.{LayoutFault}
-use Rattle.exr_frame.specs.declared.fault.LayoutFault.TheVariants.{Empty, Huge, TwiceChannel, ZeroSampling, Overlap, ShortStride, OutOfBuffer}
-use Rattle.exr_frame.specs.Judging.{Frame, IsLawful, end_of, judged, refused_at, slice_end, slices_judged, run_end, run_judged, runs_judged, samplings_judged, plane_end, last_of, plane_judged, planes_judged, slices_of_plane, slices_of, names_judged, is_empty_plane, is_huge_plane, frame_judged}
-use Rattle.exr_frame.specs.Place.{spot_of, spots_of_run, spots_of_plane, spots_of, spot_at, count_before, place_in_buffer, place_of, IsWithin, IsNamed, Byte}
+use Rattle.exr_frame.specs.declared.fault.LayoutFault.TheVariants.{Empty, Huge, ZeroSampling, Overlap, ShortStride, OutOfBuffer}
+use Rattle.exr_frame.specs.Judging.{Frame, IsLawful, judged, refused_at, slice_end, slices_judged, run_end, run_judged, runs_judged, samplings_judged, plane_end, last_of, plane_judged, planes_judged, slices_of_plane, slices_of, names_judged, is_empty_plane, is_huge_plane, frame_judged}
+use Rattle.exr_frame.specs.Place.{spot_of, spots_of_run, spots_of_plane, spots_of, spot_at, count_before, place_in_buffer, place_of, IsNamed, Byte}
 use Rattle.exr_frame.proofs.Columns.{before_count, same_multiple}
 use Rattle.exr_frame.proofs.Matched.{bind_ok_from}
 use Rattle.exr_frame.proofs.Stands.{Stands, Again, nothing, single, lower, behind, again}

@@ -1,9 +1,9 @@
 -- The samples of a slice on a line: each stands a stride behind the one before.
-use Rattle.std.proofs.Common.{◌≡◌, ◌+◌, ◌-◌, ◌*◌, ◌<◌, ◌≤◌, ◌^◌, ℕ, zero, suc, ℤ, pos, neg_ℤ, ◌+ℤ◌, ◌-ℤ◌, ◌≤ℤ◌, nat_abs, Bool, true, false, List, [], ◌∷◌, ◌++◌, length, get_or, map, All, Result, Ok, Err, refl, sym, ap, ap₂, ◌∙◌, subst, inl, inr, arith, eqb, ltb}
+use Rattle.std.proofs.Common.{◌≡◌, ◌+◌, ◌-◌, ◌*◌, ◌<◌, ◌≤◌, ◌^◌, ℕ, zero, suc, ℤ, pos, neg_ℤ, ◌+ℤ◌, ◌-ℤ◌, ◌≤ℤ◌, nat_abs, true, false, List, [], ◌∷◌, length, map, All, Ok, refl, sym, ap, ap₂, ◌∙◌, subst, arith, eqb, ltb}
 use Rattle.std.specs.Prelude.{int_lt}
 use Rattle.std.specs.Int.{int_min, int_max}
 use Rattle.std.specs.List.{flat_map, position}
-use Rattle.std.proofs.lemmas.Bool.{cases_lt, ltb-false}
+use Rattle.std.proofs.lemmas.Bool.{ltb-false}
 use Rattle.std.proofs.lemmas.Int.{ints, clamps}
 use Rattle.std.proofs.lemmas.List.Elements.{All-nil, All-cons, All-append}
 use Rattle.exr_base.specs.declared.shape.Box2i.{Box2i}
@@ -11,18 +11,14 @@ use Rattle.exr_base.specs.declared.channel.Kind.TheVariants.{Uint, Half, Float}
 use Rattle.exr_base.specs.Channel.{bytes_of}
 use Rattle.exr_base.specs.Refusal.{◌>>=◌}
 use Rattle.exr_base.specs.Sampling.{is_multiple, multiples_among, span_of, sample_count_of}
-use Rattle.exr_base.specs.Shape.{IsRegion}
 use Rattle.exr_frame.specs.declared.planes.Slice.{Slice}
 use Rattle.exr_frame.specs.declared.planes.Run.{Run}
 use Rattle.exr_frame.specs.declared.planes.Plane.{Plane}
 use Rattle.exr_frame.specs.declared.spot.Spot.{Spot}
-use Rattle.exr_frame.specs.declared.strip.Strip.{Strip}
-use Rattle.exr_frame.specs.declared.fault.LayoutFault.{LayoutFault}
 use Rattle.exr_frame.specs.declared.fault.LayoutFault.TheVariants.{Empty, Huge, ZeroSampling, Overlap, ShortStride, OutOfBuffer}
 use Rattle.exr_frame.specs.Judging.{Frame, IsFrame, IsLawful, judged, slice_end, slices_judged, run_end, run_judged, refused_at, samplings_judged, runs_judged, plane_end, last_of, plane_judged, planes_judged, slices_of_plane, slices_of, names_judged, is_empty_plane, is_huge_plane, frame_judged}
-use Rattle.exr_frame.specs.Place.{spot_of, spots_of_run, spots_of_plane, spots_of, spot_at, count_before, place_in_buffer, place_of, place_behind, IsWithin, IsNamed, Byte}
-use Rattle.exr_frame.specs.Put.{IsPut}
-use Rattle.exr_frame.specs.Rows.{IsInRow, IsOfRow, IsStrip, HasNone, IsLineOf, low_of, high_of}
+use Rattle.exr_frame.specs.Place.{spot_of, spots_of_run, spots_of_plane, spots_of, spot_at, count_before, place_in_buffer, place_of, place_behind, Byte}
+use Rattle.exr_frame.specs.Rows.{IsInRow, IsStrip, HasNone, IsLineOf, low_of, high_of}
 use Rattle.exr_frame.proofs.Columns.{before_count, before_split, multiple_numbered}
 use Rattle.exr_frame.proofs.Matched.{bind_ok_from}
 use Rattle.exr_frame.proofs.Standing.{judged_passed, place_within}

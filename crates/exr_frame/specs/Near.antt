@@ -1,5 +1,5 @@
 -- What the tests over all planes leave to the later ones.
-use Rattle.std.specs.Prelude.{◌≤◌, ◌^◌, ℕ, List, All}
+use Rattle.std.specs.Prelude.{◌≤◌, ◌^◌, All}
 use Rattle.exr_frame.specs.declared.planes.Slice.{Slice}
 use Rattle.exr_frame.specs.declared.planes.Run.{Run}
 use Rattle.exr_frame.specs.declared.planes.Plane.{Plane}

@@ -1,10 +1,10 @@
 -- Where each sample of a window stands in a buffer (own).
-use Rattle.std.specs.Prelude.{◌≡◌, ◌<◌, ◌+◌, ◌*◌, ◌-ℤ◌, ◌≤ℤ◌, ℕ, ℤ, pos, nat_abs, IsTrue, List, [], length, map, slice_index_or}
+use Rattle.std.specs.Prelude.{◌<◌, ◌+◌, ◌*◌, ◌-ℤ◌, ◌≤ℤ◌, ℕ, ℤ, nat_abs, IsTrue, List, [], length, map, slice_index_or}
 use Rattle.std.specs.List.{flat_map}
 use Rattle.exr_base.specs.declared.channel.Kind.TheVariants.{Uint}
 use Rattle.exr_base.specs.declared.shape.Box2i.{Box2i}
 use Rattle.exr_base.specs.Channel.{bytes_of}
-use Rattle.exr_base.specs.Sampling.{is_multiple, multiples_among, sample_count_of}
+use Rattle.exr_base.specs.Sampling.{is_multiple, multiples_among}
 use Rattle.exr_frame.specs.declared.planes.Slice.{Slice}
 use Rattle.exr_frame.specs.declared.planes.Run.{Run}
 use Rattle.exr_frame.specs.declared.planes.Plane.{Plane}

@@ -1,5 +1,5 @@
 -- A layout against the channels of a part (own).
-use Rattle.std.specs.Prelude.{◌≡◌, ◌==◌, ◌<◌, ◌+◌, ◌&&◌, int_le, ℕ, ℤ, Bool, true, false, List, [], ◌∷◌, length, position, slice_index_or, nat_eq, Option, Some, None, Result, Ok, Err, if◌then◌else◌}
+use Rattle.std.specs.Prelude.{◌≡◌, ◌==◌, ◌+◌, ◌&&◌, int_le, ℕ, ℤ, Bool, true, false, List, [], ◌∷◌, length, position, slice_index_or, nat_eq, Option, Some, None, Result, Ok, Err, if◌then◌else◌}
 use Rattle.std.specs.Cmp.Lexicographic.{pointwise}
 use Rattle.exr_base.specs.declared.shape.Box2i.{Box2i}
 use Rattle.exr_base.specs.declared.channel.Kind.{Kind}

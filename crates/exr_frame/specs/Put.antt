@@ -1,11 +1,11 @@
 -- What a buffer holds once the samples of a region were put into it (own).
-use Rattle.std.specs.Prelude.{◌≡◌, ◌≢◌, ◌<◌, ◌+◌, ◌-◌, ◌*◌, ◌/◌, ◌%◌, ◌^◌, ◌-ℤ◌, ℕ, ℤ, nat_abs, List, take, length, slice_index, slice_index_or, sum_by, Option, Some, None}
+use Rattle.std.specs.Prelude.{◌≡◌, ◌≢◌, ◌+◌, ◌*◌, ◌/◌, ◌%◌, ◌^◌, ◌-ℤ◌, ℕ, ℤ, nat_abs, List, take, slice_index, slice_index_or, sum_by, Option, Some, None}
 use Rattle.exr_base.specs.declared.shape.Box2i.{Box2i}
 use Rattle.exr_base.specs.declared.channel.Channel.{Channel}
 use Rattle.exr_base.specs.Channel.{bytes_of}
 use Rattle.exr_base.specs.Shape.{row_bytes_of, lines_bytes_of}
 use Rattle.exr_frame.specs.declared.spot.Spot.{Spot}
-use Rattle.exr_frame.specs.Place.{Byte, IsNamed, IsWithin, spot_at, count_before, place_of}
+use Rattle.exr_frame.specs.Place.{Byte, IsNamed, IsWithin, spot_at, count_before}
 use Rattle.exr_frame.specs.Plan.{channel_at}
 
 -- those of some bytes were put, each in its place: every other byte is as before

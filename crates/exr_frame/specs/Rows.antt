@@ -1,5 +1,5 @@
 -- What was put so far: samples along a row, the row of a slice, the row of a channel, channels of a line, lines, fills.
-use Rattle.std.specs.Prelude.{◌≡◌, ◌<◌, ◌≤◌, ◌+◌, ◌*◌, ◌/◌, ◌%◌, ◌^◌, ◌-◌, ◌<ℤ◌, ◌≤ℤ◌, length, IsTrue, pos, ◌+ℤ◌, ℕ, ℤ, List, slice_index, slice_index_or, Option, Some, None}
+use Rattle.std.specs.Prelude.{◌≡◌, ◌<◌, ◌≤◌, ◌+◌, ◌*◌, ◌/◌, ◌%◌, ◌^◌, ◌-◌, ◌<ℤ◌, ◌≤ℤ◌, length, ◌&&◌, Bool, IsTrue, pos, ◌+ℤ◌, ℕ, ℤ, List, slice_index, slice_index_or, Option, Some, None}
 use Rattle.std.specs.Int.{int_min, int_max}
 use Rattle.exr_base.specs.declared.shape.Box2i.{Box2i}
 use Rattle.exr_base.specs.Channel.{bytes_of}
@@ -7,6 +7,7 @@ use Rattle.exr_frame.specs.declared.spot.Spot.{Spot}
 use Rattle.exr_base.specs.Sampling.{is_multiple, sample_count_of}
 use Rattle.exr_frame.specs.declared.strip.Strip.{Strip}
 use Rattle.exr_frame.specs.Judging.{Frame}
+use Rattle.exr_frame.specs.Plan.{is_side_inside}
 use Rattle.exr_frame.specs.Place.{Byte, IsNamed, IsWithin, spots_of, spot_at, count_before}
 
 -- byte k.1 of sample k.0 of a row
@@ -103,7 +104,11 @@ pub record IsStrip (f : Frame) (region : Box2i) (s : ℕ) (y : ℤ) (strip : Str
 abbrev pub HasNone : Frame → Box2i → ℕ → ℤ → Type 0
 HasNone f region s y = (k : Byte) → IsInRow f.window (spots_of f.planes) region s y k → ⊥
 
--- the line is one of the slice's, in the window and in the region
+-- the line is one of the slice's, in the window
+abbrev pub has_line : Frame → ℕ → ℤ → Bool
+has_line f s y = is_side_inside y y f.window.y0 f.window.y1 && is_multiple (spot_at (spots_of f.planes) s).row_sampling y
+
+-- and in the region
 pub record IsLineOf (f : Frame) (region : Box2i) (s : ℕ) (y : ℤ) : Type 0 where
   pub slice : s < length (spots_of f.planes)
   pub line : IsTrue (is_multiple (spot_at (spots_of f.planes) s).row_sampling y)

@@ -2,8 +2,8 @@
 //! that no channel of the part has.
 
 ghost use Rattle.std.specs.Prelude.{◌≡◌, ◌≤◌, ◌<◌, ◌+◌, ◌≤ℤ◌, ◌-ℤ◌, ◌^◌, nat_abs, length, take, sum_by};
-ghost use Rattle.exr_base.specs.Sampling.{is_multiple};
 ghost use Rattle.exr_base.specs.Shape.{IsShape, IsRegion, IsSampled, row_bytes_of, line_bytes_of, lines_bytes_of, raw_size_of, height_of};
+ghost use Rattle.exr_frame.specs.Judging.{IsLawful};
 ghost use Rattle.exr_frame.specs.Place.{spots_of, place_of};
 ghost use Rattle.exr_frame.specs.Plan.{channel_at, IsPlanOf};
 ghost use Rattle.exr_frame.specs.Put.{IsPut, IsInRegion, chunk_byte};
@@ -11,15 +11,8 @@ ghost use Rattle.exr_frame.specs.Rows.{IsInRow, IsOfChannel, IsOfLine, IsOfLines
 
 use crate::layout::Layout;
 use crate::plan::Plan;
-use crate::rows::{fill_row, put_row};
+use crate::rows::{fill_row, has_line, is_multiple, put_row};
 use exr_base::{Box2i, Channel, Shape, sample_count};
-
-fn is_multiple(sampling: u32, place: i32) -> bool
-    requires { 1 ≤ sampling }
-    ensures { result ≡ is_multiple sampling place }
-{
-    place.unsigned_abs() % sampling == 0
-}
 
 /// The bytes of a channel on a line of a region.
 fn row_bytes(channel: &Channel, region: Box2i, y: i32) -> usize
@@ -62,16 +55,10 @@ fn put_channel(
     let Some(number) = plan.slices[c] else {
         return;
     };
-    let window = layout.window();
-    if y < window.y0 || window.y1 < y {
-        return;
+    if has_line(layout, plan, number as usize, y) {
+        let row = &raw[at..at + row_bytes(&shape.channels[c], shape.region, y)];
+        put_row(layout, plan, number as usize, shape.region, y, row, into);
     }
-    let channel = &shape.channels[c];
-    if !is_multiple(channel.ys, y) {
-        return;
-    }
-    let row = &raw[at..at + row_bytes(channel, shape.region, y)];
-    put_row(layout, plan, number as usize, shape.region, y, row, into);
 }
 
 /// Puts the samples of a line, whose raw bytes begin at `at`, and answers where the next line's begin.
@@ -84,6 +71,7 @@ fn put_line(
     raw: &[u8],
     into: &mut [u8],
 ) -> usize
+    requires lawful { IsLawful layout.now }
     requires plan { IsPlanOf layout.now shape.now.channels.now plan.now }
     requires shape { IsShape shape.now.channels.now shape.now.region }
     requires above { shape.now.region.y0 ≤ℤ y }
@@ -108,6 +96,7 @@ fn put_line(
 
 /// Puts the samples of all lines.
 fn put_lines(layout: &Layout, plan: &Plan, shape: &Shape, raw: &[u8], into: &mut [u8])
+    requires lawful { IsLawful layout.now }
     requires plan { IsPlanOf layout.now shape.now.channels.now plan.now }
     requires shape { IsShape shape.now.channels.now shape.now.region }
     requires raw { length raw.now ≡ raw_size_of shape.now.channels.now shape.now.region }
@@ -153,17 +142,14 @@ fn fill_line(layout: &Layout, plan: &Plan, number: usize, region: Box2i, y: i32,
         (place_of layout.now.window (spots_of layout.now.planes)) (filled_byte (spots_of layout.now.planes))
         into.old into.new }
 {
-    let window = layout.window();
-    if y < window.y0 || window.y1 < y {
-        return;
-    }
-    if is_multiple(plan.spots[number].row_sampling, y) {
+    if has_line(layout, plan, number, y) {
         fill_row(layout, plan, number, region, y, into);
     }
 }
 
 /// Puts the fill of a slice on all lines of a region.
 fn fill_slice(layout: &Layout, plan: &Plan, number: usize, region: Box2i, into: &mut [u8])
+    requires lawful { IsLawful layout.now }
     requires plan { plan.now.spots.items ≡ spots_of layout.now.planes }
     requires slice { number < length plan.now.spots.items }
     requires region { IsRegion region }
@@ -179,6 +165,7 @@ fn fill_slice(layout: &Layout, plan: &Plan, number: usize, region: Box2i, into: 
 
 /// Puts the fills of the slices that no channel of the part has.
 fn fill_slices(layout: &Layout, plan: &Plan, region: Box2i, into: &mut [u8])
+    requires lawful { IsLawful layout.now }
     requires plan { plan.now.spots.items ≡ spots_of layout.now.planes }
     requires places { length plan.now.channels.items ≡ length (spots_of layout.now.planes) }
     requires region { IsRegion region }
@@ -207,6 +194,7 @@ pub fn scatter(layout: &Layout, plan: &Plan, shape: &Shape, raw: &[u8], into: &m
         (chunk_byte shape.now.channels.now shape.now.region raw.now (spots_of layout.now.planes) plan.now.channels.items)
         into.old into.new }
 {
+    let _lawful = layout.planes();
     put_lines(layout, plan, shape, raw, into);
     fill_slices(layout, plan, shape.region, into);
 }

@@ -105,7 +105,7 @@ fn slices_matched(
     Ok(places)
 }
 
-fn is_side_inside(from: i32, to: i32, low: i32, high: i32) -> bool
+pub(crate) fn is_side_inside(from: i32, to: i32, low: i32, high: i32) -> bool
     ensures { result ≡ is_side_inside from to low high }
 {
     low <= from && to <= high

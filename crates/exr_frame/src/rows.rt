@@ -1,18 +1,35 @@
 //! The samples of a chunk, put row by row.
 
-ghost use Rattle.std.specs.Prelude.{◌≡◌, ◌<◌, ◌*◌, length};
+ghost use Rattle.std.specs.Prelude.{◌≡◌, ◌<◌, ◌≤◌, ◌*◌, length};
 ghost use Rattle.exr_base.specs.Channel.{bytes_of};
-ghost use Rattle.exr_base.specs.Sampling.{sample_count_of};
+ghost use Rattle.exr_base.specs.Sampling.{is_multiple, sample_count_of};
 ghost use Rattle.exr_base.specs.Shape.{IsRegion};
 ghost use Rattle.exr_frame.specs.Place.{spots_of, spot_at, place_of};
 ghost use Rattle.exr_frame.specs.Put.{IsPut};
-ghost use Rattle.exr_frame.specs.Rows.{IsInRow, IsLineOf, line_byte, filled_byte};
+ghost use Rattle.exr_frame.specs.Rows.{IsInRow, IsLineOf, has_line, line_byte, filled_byte};
 
 use crate::layout::Layout;
-use crate::plan::Plan;
+use crate::plan::{Plan, is_side_inside};
 use crate::strides::{fill_samples, put_samples};
 use crate::strip::strip_of;
 use exr_base::Box2i;
+
+pub(crate) fn is_multiple(sampling: u32, place: i32) -> bool
+    requires { 1 ≤ sampling }
+    ensures { result ≡ is_multiple sampling place }
+{
+    place.unsigned_abs() % sampling == 0
+}
+
+/// The line is one of the slice's, in the window.
+pub(crate) fn has_line(layout: &Layout, plan: &Plan, number: usize, y: i32) -> bool
+    requires plan { plan.now.spots.items ≡ spots_of layout.now.planes }
+    requires slice { number < length plan.now.spots.items }
+    ensures { result ≡ has_line layout.now number y }
+{
+    let window = layout.window();
+    is_side_inside(y, y, window.y0, window.y1) && is_multiple(plan.spots[number].row_sampling, y)
+}
 
 /// Puts the samples of a slice on a line of a region.
 pub(crate) fn put_row(

@@ -1,7 +1,4 @@
-use Rattle.std.proofs.Common.{arith, rules, length, take, ◌+◌, ◌∙◌, sym, ap, ◌≡◌, subst, ℕ, drop}
-use Rattle.std.proofs.lemmas.List.Elements.{All-more}
-use Rattle.exr_frame.specs.Judging.{samplings_judged}
-use Rattle.exr_frame.specs.Near.{IsSampledRun}
+use Rattle.std.proofs.Common.{arith, rules, length, ◌≡◌}
 use Rattle.exr_frame.proofs.Counted.{runs_more, runs_within, zero_true, zero_false, sampled_more}
 use Rattle.exr_frame.proofs.Rests.{samplings_err, samplings_ok, samplings_all}
 use Rattle.exr_frame.proofs.judging.all_sampled.Goals as goal

@@ -1,7 +1,7 @@
-use Rattle.std.proofs.Common.{arith, ◌∙◌, sym, drop, ◌+◌, ap, subst, ◌≡◌, ℕ, List, length}
+use Rattle.std.proofs.Common.{arith, ◌∙◌, ap, List, length}
 use Rattle.std.proofs.lemmas.Result.{err_from_is_err_and}
 use Rattle.exr_frame.specs.declared.planes.Run.{Run}
-use Rattle.exr_frame.specs.Judging.{slices_of_runs, slices_of_plane}
+use Rattle.exr_frame.specs.Judging.{slices_of_runs}
 use Rattle.exr_frame.proofs.Counted.{planes_more, planes_within, plane_slices_at}
 use Rattle.exr_frame.proofs.Listed.{few_in_plane}
 use Rattle.exr_frame.proofs.Rests.{planes_err, planes_ok, planes_all}

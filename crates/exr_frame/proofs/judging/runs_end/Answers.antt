@@ -1,6 +1,5 @@
-use Rattle.std.proofs.Common.{arith, rules, length, ◌∙◌, sym, drop, ◌+◌, ap, subst, ◌≡◌, ℕ}
+use Rattle.std.proofs.Common.{arith, rules, length, ◌≡◌}
 use Rattle.std.proofs.lemmas.Result.{err_from_is_err_and}
-use Rattle.exr_frame.specs.Judging.{slices_of_runs}
 use Rattle.exr_frame.proofs.Counted.{runs_more, runs_within, run_filled}
 use Rattle.exr_frame.proofs.Rests.{runs_err, runs_ok, runs_all}
 use Rattle.exr_frame.proofs.judging.runs_end.Goals as goal

@@ -1,5 +1,4 @@
-use Rattle.std.proofs.Common.{arith, ap, ◌∙◌, subst, ◌+◌, ℕ, drop, ◌≡◌}
-use Rattle.exr_frame.specs.Judging.{slices_judged}
+use Rattle.std.proofs.Common.{arith}
 use Rattle.exr_frame.proofs.Counted.{slice_small}
 use Rattle.exr_frame.proofs.Rests.{slices_err, slices_ok, slices_all}
 use Rattle.exr_frame.proofs.judging.slices_end.Goals as goal

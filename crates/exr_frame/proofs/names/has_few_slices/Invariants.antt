@@ -1,4 +1,4 @@
-use Rattle.std.proofs.Common.{◌≡◌, ◌+◌, min, length, take}
+use Rattle.std.proofs.Common.{◌≡◌, min, length, take}
 use Rattle.exr_frame.specs.Judging.{slices_of}
 use Rattle.exr_frame.proofs.names.has_few_slices.Given as goal
 

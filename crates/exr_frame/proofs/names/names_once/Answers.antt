@@ -1,5 +1,4 @@
-use Rattle.std.proofs.Common.{arith, ◌∙◌, sym, ap, ◌+◌, Some, None, ◌≡◌}
-use Rattle.std.specs.List.{slice_get}
+use Rattle.std.proofs.Common.{arith, ◌∙◌, sym, ap}
 use Rattle.std.specs.Option.{option_copied}
 use Rattle.exr_frame.specs.Judging.{slices_of}
 use Rattle.exr_frame.proofs.Listed.{names_err, names_ok, names_within, names_all, none_copied}

@@ -1,4 +1,4 @@
-use Rattle.std.proofs.Common.{arith, ◌∙◌, sym, drop, ◌+◌, ap}
+use Rattle.std.proofs.Common.{arith, ◌∙◌, drop, ◌+◌, ap}
 use Rattle.std.specs.List.{position_or_len}
 use Rattle.exr_frame.specs.Judging.{has_name, slices_of_runs}
 use Rattle.exr_frame.proofs.Listed.{place_small, place_ends, place_goes_on, runs_rest}

@@ -1,4 +1,4 @@
-use Rattle.std.proofs.Common.{arith, ◌∙◌, sym, drop, ◌+◌, ap, List, length}
+use Rattle.std.proofs.Common.{arith, ◌∙◌, drop, ◌+◌, ap, List, length}
 use Rattle.std.specs.List.{position_or_len}
 use Rattle.exr_frame.specs.declared.planes.Run.{Run}
 use Rattle.exr_frame.specs.Judging.{has_name, slices_of_runs, slices_of_plane, slices_of}

@@ -1,4 +1,4 @@
-use Rattle.std.proofs.Common.{arith, ◌∙◌, sym, ap, ◌+◌}
+use Rattle.std.proofs.Common.{arith}
 use Rattle.exr_frame.proofs.Counted.{runs_within, runs_more}
 use Rattle.exr_frame.proofs.names.slice_count.Goals as goal
 

@@ -1,6 +1,4 @@
-use Rattle.std.proofs.Common.{arith, ◌∙◌, sym, drop, ◌+◌, ◌-◌, ap, rules, length, ◌≡◌}
-use Rattle.std.specs.List.{slice_get}
-use Rattle.exr_frame.specs.Judging.{slices_of_runs}
+use Rattle.std.proofs.Common.{arith, rules, length, ◌≡◌}
 use Rattle.exr_frame.proofs.Listed.{run_found, run_behind}
 use Rattle.exr_frame.proofs.names.slice_in_runs.Goals as goal
 

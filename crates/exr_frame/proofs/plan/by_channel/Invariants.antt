@@ -1,4 +1,3 @@
-use Rattle.std.proofs.Common.{length}
 use Rattle.exr_frame.specs.Inverse.{AreInverse}
 use Rattle.exr_frame.proofs.plan.by_channel.Given as goal
 

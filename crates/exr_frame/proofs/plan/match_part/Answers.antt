@@ -1,8 +1,5 @@
-use Rattle.std.proofs.Common.{◌∙◌, sym, ap, subst, ◌≡◌, ◌≤◌, ◌<◌, ℕ, length, List, Option, Some, None, Ok, get_or, arith}
-use Rattle.exr_base.specs.declared.channel.Channel.{Channel}
-use Rattle.exr_frame.specs.Judging.{slices_of}
+use Rattle.std.proofs.Common.{arith}
 use Rattle.exr_frame.specs.Place.{spots_of}
-use Rattle.exr_frame.specs.Plan.{slices_matched}
 use Rattle.exr_frame.proofs.Matched.{few_spots, few_places, names_passed, slice_channel, one_slice, matched_here, as_many}
 use Rattle.exr_frame.proofs.plan.match_part.Goals as goal
 

@@ -1,5 +1,5 @@
 use Rattle.std.proofs.Common.{arith}
-use Rattle.exr_frame.proofs.Matched.{matched_err, matched_ok, matched_all, matched_begun}
+use Rattle.exr_frame.proofs.Matched.{matched_err, matched_ok, matched_all}
 use Rattle.exr_frame.proofs.plan.slices_matched.Goals as goal
 
 pub returns-in-Err : goal.returns-in-Err

@@ -1,7 +1,6 @@
-use Rattle.std.proofs.Common.{rules, arith, ap, sym, subst, w32, ◌≡◌, ◌∙◌, ◌*◌, ◌+◌, ◌≤◌, ◌<◌, length}
-use Rattle.exr_base.specs.Channel.{bytes_of}
+use Rattle.std.proofs.Common.{rules, ◌≡◌}
 use Rattle.exr_frame.specs.Place.{spots_of, spot_at}
-use Rattle.exr_frame.specs.Rows.{IsStrip, HasNone, line_byte, filled_byte}
+use Rattle.exr_frame.specs.Rows.{IsStrip, HasNone, filled_byte}
 use Rattle.exr_frame.proofs.Rowed.{row_nothing, spot_here, spot_fill_put}
 use Rattle.exr_frame.proofs.rows.fill_row.Goals as goal
 

@@ -1,4 +1,4 @@
-use Rattle.std.proofs.Common.{arith, refl, ◌+◌, ◌*◌, ◌/◌, ◌%◌, ◌≤◌, length}
+use Rattle.std.proofs.Common.{refl, ◌+◌, ◌*◌, ◌/◌, ◌%◌, ◌≤◌, length}
 use Rattle.std.proofs.Math.ListN.{set}
 use Rattle.exr_frame.specs.Rows.{fill_byte}
 use Rattle.exr_frame.proofs.Putting.{row_more, room_at, sample_of_two, fill_first}

@@ -1,4 +1,3 @@
-use Rattle.std.proofs.Common.{arith, ap, refl, sym, ◌∙◌, ◌+◌, ◌-◌, ◌≡◌, length, take, drop, ◌++◌, ℕ, List}
 use Rattle.exr_frame.proofs.Putting.{row_copied, laid}
 use Rattle.exr_frame.proofs.strides.put_together.Goals as goal
 

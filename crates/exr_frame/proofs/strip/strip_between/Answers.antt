@@ -1,5 +1,4 @@
-use Rattle.std.proofs.Common.{arith, rules, sym, ap, ◌≡◌, ◌∙◌}
-use Rattle.std.proofs.lemmas.Int.{ints}
+use Rattle.std.proofs.Common.{arith, rules, ap, ◌≡◌, ◌∙◌}
 use Rattle.exr_base.specs.declared.shape.Box2i.{Box2i}
 use Rattle.exr_frame.specs.Place.{count_before}
 use Rattle.exr_frame.proofs.Strips.{columns_sampled, low_near, low_behind, none_between, numbers_fit, strip_is}
