@@ -51,7 +51,7 @@ channel_multiple f part plan c s y is held here =
     ap (λ n. is_multiple n y) ch.rows ∙ and_right (is_side_inside y y f.window.y0 f.window.y1) (is_multiple (spot_at (spots_of f.planes) s).row_sampling y) here
 
 -- a byte of a channel is one of its slice
-in_row_of : (f : Frame) (part : List Channel) (plan : Plan) (region : Box2i) (s c : ℕ) (y : ℤ) → IsPlanOf f part plan → get_or plan.slices.items c None ≡ Some s
+pub in_row_of : (f : Frame) (part : List Channel) (plan : Plan) (region : Box2i) (s c : ℕ) (y : ℤ) → IsPlanOf f part plan → get_or plan.slices.items c None ≡ Some s
     → (k : Byte) → IsOfChannel f.window (spots_of f.planes) region plan.channels.items c y k → IsInRow f.window (spots_of f.planes) region s y k
 in_row_of f part plan region s c y is held k w =
     let there = is.slices k.slice c w.channel in
@@ -65,7 +65,7 @@ channel_nothing f part plan region s c y value old is held none =
     put_none (IsOfChannel f.window (spots_of f.planes) region plan.channels.items c y) (place_of f.window (spots_of f.planes)) value old
     (λ k w. none_on_line f region s y none k (in_row_of f part plan region s c y is held k w))
 
-kind_bytes : (a b : Kind) → same_kind a b ≡ true → bytes_of a ≡ bytes_of b
+pub kind_bytes : (a b : Kind) → same_kind a b ≡ true → bytes_of a ≡ bytes_of b
 kind_bytes Uint Uint h = refl
 kind_bytes Uint Half h = absurd (cc)
 kind_bytes Uint Float h = refl

@@ -1,6 +1,8 @@
 pub mod Channelled
 pub mod Columns
 pub mod Counted
+pub mod Gathered
+pub mod Growing
 pub mod Lined
 pub mod Listed
 pub mod Matched

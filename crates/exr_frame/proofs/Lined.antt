@@ -48,16 +48,16 @@ line_more f region places c y value old mid new lawful p q =
 pub line_begun : (f : Frame) (region : Box2i) (places : List (Option ℕ)) (y : ℤ) (value : Byte → ℕ) (old : List ℕ) → IsPut (IsOfLine f.window (spots_of f.planes) region places 0 y) (place_of f.window (spots_of f.planes)) value old old
 line_begun f region places y value old = put_none (IsOfLine f.window (spots_of f.planes) region places 0 y) (place_of f.window (spots_of f.planes)) value old (λ k w. omega (arith, w.early))
 
-line_cases : (z from : ℤ) (n : ℕ) → z <ℤ (from +ℤ pos (n + 1)) → (z <ℤ (from +ℤ pos n)) ⊎ (z ≡ from +ℤ pos n)
+pub line_cases : (z from : ℤ) (n : ℕ) → z <ℤ (from +ℤ pos (n + 1)) → (z <ℤ (from +ℤ pos n)) ⊎ (z ≡ from +ℤ pos n)
 line_cases z from n h = elim (cases_lt (nat_abs ((from +ℤ pos (n + 1)) -ℤ z)) 2) [
   | inl last ↦ inr (omega (arith, ints))
   | inr before ↦ inl (omega (arith, ints))
 ]
 
-later : (z from : ℤ) (n : ℕ) → z <ℤ (from +ℤ pos n) → z <ℤ (from +ℤ pos (n + 1))
+pub later : (z from : ℤ) (n : ℕ) → z <ℤ (from +ℤ pos n) → z <ℤ (from +ℤ pos (n + 1))
 later z from n h = omega (arith, ints)
 
-at_line : (z y from : ℤ) (n : ℕ) → z ≡ y → y ≡ from +ℤ pos n → z <ℤ (from +ℤ pos (n + 1))
+pub at_line : (z y from : ℤ) (n : ℕ) → z ≡ y → y ≡ from +ℤ pos n → z <ℤ (from +ℤ pos (n + 1))
 at_line z y from n e h = omega (arith, ints)
 
 not_before : (z y from : ℤ) (n : ℕ) → z <ℤ (from +ℤ pos n) → z ≡ y → y ≡ from +ℤ pos n → ⊥
@@ -82,7 +82,7 @@ lines_more f part plan region n y value old mid new lawful is at p q =
     (λ k w. record { named = w.named; within = w.within; channel = w.channel; has_channel = w.has_channel; early = at_line k.y y region.y0 n w.line at })
     p q
 
-none_above : (z from : ℤ) → from ≤ℤ z → z <ℤ (from +ℤ pos 0) → ⊥
+pub none_above : (z from : ℤ) → from ≤ℤ z → z <ℤ (from +ℤ pos 0) → ⊥
 none_above z from h k = omega (arith, ints)
 
 pub lines_begun : (f : Frame) (region : Box2i) (places : List (Option ℕ)) (value : Byte → ℕ) (old : List ℕ) → IsPut (IsOfLines f.window (spots_of f.planes) region places 0) (place_of f.window (spots_of f.planes)) value old old

@@ -139,7 +139,7 @@ lies y low high h =
 from_both : (a b : Bool) → a ≡ true → b ≡ true → (a && b) ≡ true
 from_both a b e h = ap₂ (λ (x y : Bool). x && y) e h
 
-within_side : (y low high : ℤ) → low ≤ℤ y → y ≤ℤ high → is_side_inside y y low high ≡ true
+pub within_side : (y low high : ℤ) → low ≤ℤ y → y ≤ℤ high → is_side_inside y y low high ≡ true
 within_side y low high h k = from_both (int_le low y) (int_le y high) (grind (arith, ints)) (grind (arith, ints))
 
 -- on a line that a slice does not have, it has no samples

@@ -225,7 +225,7 @@ within_of f region s y i b lawful w =
     let P : ℕ → ℕ → Type 0 = λ (n m : ℕ). first_place f s y (low_of f.window region) + n * (spot_at (spots_of f.planes) s).stride + m < f.buffer in
     subst (λ n. P n b) w.count (subst (λ m. P (count_before (spot_at (spots_of f.planes) s).sampling (low_of f.window region) w.at.x) m) w.byte (subst (λ n. n < f.buffer) a.place in_buffer))
 
-bytes_some : (x : Spot) → 0 < bytes_of x.kind
+pub bytes_some : (x : Spot) → 0 < bytes_of x.kind
 bytes_some x = elim x.kind as (λ kind. 0 < bytes_of kind) [ Uint ↦ omega arith | Half ↦ omega arith | Float ↦ omega arith ]
 
 pub first_fits : (f : Frame) (region : Box2i) (s : ℕ) (y : ℤ) → IsFrame f → IsLawful f → IsLineOf f region s y → low_of f.window region ≤ℤ high_of f.window region

@@ -1,4 +1,5 @@
 pub mod Fault
+pub mod Gather
 pub mod Inverse
 pub mod Judging
 pub mod Near

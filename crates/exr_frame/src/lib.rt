@@ -3,6 +3,7 @@
 #![tactic(auto)]
 
 mod fault;
+mod gathering;
 mod judging;
 mod law;
 mod layout;
@@ -14,10 +15,12 @@ mod rows;
 mod spot;
 mod strides;
 mod strip;
+mod takes;
 #[cfg(test)]
 mod tests;
 
 pub use fault::{LayoutFault, MatchFault};
+pub use gathering::gather;
 pub use law::each_byte_has_its_place;
 pub use layout::Layout;
 pub use lines::scatter;

@@ -122,7 +122,7 @@ fn put_lines(layout: &Layout, plan: &Plan, shape: &Shape, raw: &[u8], into: &mut
 }
 
 /// How many lines a region has.
-fn rows_of(region: Box2i) -> usize
+pub(crate) fn rows_of(region: Box2i) -> usize
     requires { IsRegion region }
     ensures exact { result ≡ height_of region }
     ensures small { result ≤ 2 ^ 20 }
