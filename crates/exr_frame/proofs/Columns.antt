@@ -1,6 +1,7 @@
 -- Multiples of a sampling along a side: counted in two pieces, found by their number, and told apart by it.
-use Rattle.std.proofs.Common.{◌≡◌, ◌+◌, ◌-◌, ◌<◌, ◌≤◌, ℕ, zero, suc, ℤ, pos, ◌+ℤ◌, ◌-ℤ◌, ◌≤ℤ◌, nat_abs, Bool, true, false, cond, refl, sym, ap, ◌∙◌, inl, inr, arith, add-zero}
+use Rattle.std.proofs.Common.{◌≡◌, ◌+◌, ◌-◌, ◌<◌, ◌≤◌, ℕ, zero, suc, ℤ, pos, ◌+ℤ◌, ◌-ℤ◌, ◌≤ℤ◌, nat_abs, Bool, true, false, cond, refl, sym, ap, ap₂, ◌∙◌, inl, inr, arith, add-zero}
 use Rattle.std.proofs.lemmas.Bool.{cases_lt}
+use Rattle.std.proofs.lemmas.Bool.Decides.{nat_tests}
 use Rattle.std.proofs.lemmas.Int.{ints}
 use Rattle.exr_base.specs.Sampling.{is_multiple, multiples_among, span_of, sample_count_of}
 use Rattle.exr_frame.specs.Place.{count_before}
@@ -43,6 +44,15 @@ before_less s from a b h here =
     let e = among_one s from a here in
     let f = among_to s from (suc a) b (omega arith) in
     omega arith
+
+-- each place is a multiple of one
+whole : (z : ℤ) → is_multiple 1 z ≡ true
+whole z = grind (arith, nat_tests)
+
+pub among_each : (from : ℤ) (n : ℕ) → multiples_among 1 from n ≡ n
+unfolding multiples_among
+among_each from zero = refl
+among_each from (suc n) = ap₂ (λ (m : ℕ) (b : Bool). m + cond b 1 0) (among_each from n) (whole (from +ℤ pos n)) ∙ omega arith
 
 -- the multiple of a number
 pub record Multiple (s : ℕ) (from : ℤ) (n i : ℕ) : Type 0 where

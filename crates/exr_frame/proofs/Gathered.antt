@@ -1,29 +1,28 @@
 -- The raw bytes of a region out of a buffer: a row, a channel, a line, all lines.
-use Rattle.std.proofs.Common.{◌≡◌, ◌≢◌, ◌+◌, ◌-◌, ◌*◌, ◌^◌, ◌<◌, ◌≤◌, ◌⊎◌, ℕ, zero, suc, ℤ, pos, ◌+ℤ◌, ◌-ℤ◌, ◌≤ℤ◌, ◌<ℤ◌, nat_abs, Bool, true, false, cond, ◌&&◌, IsTrue, List, [], length, take, drop, get_or, Option, Some, None, refl, sym, ap, ap₂, ◌∙◌, subst, inl, inr, arith, slice_index}
+use Rattle.std.proofs.Common.{◌≡◌, ◌+◌, ◌*◌, ◌^◌, ◌<◌, ◌≤◌, ℕ, zero, suc, ℤ, pos, ◌+ℤ◌, ◌-ℤ◌, ◌≤ℤ◌, nat_abs, true, false, cond, ◌&&◌, List, length, take, get_or, Option, Some, None, refl, sym, ap, ap₂, ◌∙◌, subst, inl, inr, arith, slice_index}
 use Rattle.std.specs.Prelude.{int_le}
 use Rattle.std.specs.Int.{int_min, int_max}
 use Rattle.std.specs.List.{sum_by}
 use Rattle.std.proofs.lemmas.Bool.{cases_lt}
 use Rattle.std.proofs.lemmas.Int.{ints, clamps}
-use Rattle.std.proofs.lemmas.List.{take_all}
 use Rattle.exr_base.specs.declared.shape.Box2i.{Box2i}
 use Rattle.exr_base.specs.declared.channel.Channel.{Channel}
 use Rattle.exr_base.specs.Channel.{bytes_of}
 use Rattle.exr_base.specs.Sampling.{is_multiple, multiples_among, span_of, sample_count_of}
-use Rattle.exr_base.specs.Shape.{IsSide, IsRegion, row_bytes_of, line_bytes_of, lines_bytes_of, raw_size_of, height_of}
+use Rattle.exr_base.specs.Shape.{IsRegion, row_bytes_of, line_bytes_of, lines_bytes_of, raw_size_of, height_of}
 use Rattle.exr_frame.specs.declared.plan.Plan.{Plan}
 use Rattle.exr_frame.specs.declared.spot.Spot.{Spot}
 use Rattle.exr_frame.specs.declared.strip.Strip.{Strip}
 use Rattle.exr_frame.specs.Gather.{IsGrown, IsGathered, strided_byte, held_byte, line_place, raw_place, buffer_byte, IsReadRow, IsReadLine, IsReadLines}
 use Rattle.exr_frame.specs.Judging.{Frame}
-use Rattle.exr_frame.specs.Place.{spots_of, spot_at, count_before, place_of, Byte}
+use Rattle.exr_frame.specs.Place.{spots_of, spot_at, count_before}
 use Rattle.exr_frame.specs.Plan.{channel_at, no_channel, is_side_inside, is_inside, IsPlanOf}
-use Rattle.exr_frame.specs.Put.{raw_place_of, IsInRegion}
+use Rattle.exr_frame.specs.Put.{raw_place_of}
 use Rattle.exr_frame.specs.Rows.{IsOfRow, row_place, IsInRow, IsOfChannel, IsLineOf, IsStrip, HasNone, has_line, low_of, high_of}
 use Rattle.exr_frame.proofs.Channelled.{channel_of_slice, kind_bytes, in_row_of, row_size}
 use Rattle.exr_frame.proofs.Columns.{multiple_numbered}
 use Rattle.exr_frame.proofs.Growing.{grown_none, grown_again, grown_more}
-use Rattle.exr_frame.proofs.Lined.{line_cases, later, at_line, none_above, sums_more, sums_all, lines_cover, lines_next, lines_none}
+use Rattle.exr_frame.proofs.Lined.{line_cases, none_above, sums_more, lines_cover, lines_next, lines_none}
 use Rattle.exr_frame.proofs.Matched.{and_left, and_right}
 use Rattle.exr_frame.proofs.Rowed.{within_side, none_on_line}
 use Rattle.exr_frame.proofs.Strips.{along, found, bytes_some}

@@ -1,5 +1,5 @@
 -- Bytes added behind a list, piece after piece.
-use Rattle.std.proofs.Common.{◌≡◌, ◌≢◌, ◌+◌, ◌-◌, ◌*◌, ◌<◌, ◌≤◌, ◌⊎◌, ℕ, List, [], ◌∷◌, ◌++◌, length, take, drop, get_or, refl, sym, ap, ap₂, ◌∙◌, subst, inl, inr, arith, slice_index, length-append, length-drop}
+use Rattle.std.proofs.Common.{◌≡◌, ◌+◌, ◌<◌, ◌⊎◌, ℕ, List, length, refl, sym, ap, ◌∙◌, subst, inl, inr, arith, slice_index}
 use Rattle.exr_frame.specs.Gather.{IsGrown}
 
 -- nothing was added

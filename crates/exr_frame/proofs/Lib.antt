@@ -1,6 +1,7 @@
 pub mod Channelled
 pub mod Columns
 pub mod Counted
+pub mod Found
 pub mod Gathered
 pub mod Growing
 pub mod Lined

@@ -21,7 +21,7 @@ mod tests;
 
 pub use fault::{LayoutFault, MatchFault};
 pub use gathering::gather;
-pub use law::each_byte_has_its_place;
+pub use law::{each_byte_has_its_place, gather_gives_back};
 pub use layout::Layout;
 pub use lines::scatter;
 pub use names::has_few_slices;

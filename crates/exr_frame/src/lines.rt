@@ -12,7 +12,8 @@ ghost use Rattle.exr_frame.specs.Rows.{IsInRow, IsOfChannel, IsOfLine, IsOfLines
 use crate::layout::Layout;
 use crate::plan::Plan;
 use crate::rows::{fill_row, has_line, is_multiple, put_row};
-use exr_base::{Box2i, Channel, Shape, sample_count};
+use crate::strip::count_between;
+use exr_base::{Box2i, Channel, Shape};
 
 /// The bytes of a channel on a line of a region.
 fn row_bytes(channel: &Channel, region: Box2i, y: i32) -> usize
@@ -21,7 +22,7 @@ fn row_bytes(channel: &Channel, region: Box2i, y: i32) -> usize
     ensures { result ≡ row_bytes_of region y channel.now }
 {
     if is_multiple(channel.ys, y) {
-        sample_count(channel.xs, region.x0, region.x1) as usize * channel.kind.bytes()
+        count_between(channel.xs, region.x0, region.x1) as usize * channel.kind.bytes()
     } else {
         0
     }

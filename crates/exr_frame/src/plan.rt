@@ -1,8 +1,9 @@
 //! A layout matched with the channels of a part: which channel each slice holds.
 
-ghost use Rattle.std.specs.Prelude.{◌≡◌, ◌≤◌, ◌<◌, ℕ, length, position, slice_index_or, Some, None, IfOk, IfSome};
+ghost use Rattle.std.specs.Prelude.{◌≡◌, ◌≤◌, ◌<◌, ℕ, length, position, slice_index_or, Some, None, IfOk, IfSome, IsTrue, ◌↔◌};
 ghost use Rattle.exr_base.specs.Refusal.{Gives};
 ghost use Rattle.exr_judge.specs.Picture.{IsPicture};
+ghost use Rattle.exr_frame.specs.Gather.{IsFull};
 ghost use Rattle.exr_frame.specs.Inverse.{AreInverse};
 ghost use Rattle.exr_frame.specs.Place.{spots_of};
 ghost use Rattle.exr_frame.specs.Plan.{channel_at, same_kind, same_samplings, against, is_named, is_side_inside, is_inside, slice_matched, slices_matched, part_matched, IsPlanOf};
@@ -31,6 +32,13 @@ impl Plan {
         ensures { result ≡ slice_index_or self.now.channels.items slice None }
     {
         self.channels[slice as usize]
+    }
+
+    /// Each channel of the part has a slice.
+    pub fn is_full(&self) -> bool
+        ensures { IsTrue result ↔ IsFull self.now }
+    {
+        self.slices.iter().all(|slice| slice.is_some())
     }
 }
 

@@ -18,7 +18,7 @@ pub(crate) fn is_multiple(sampling: u32, place: i32) -> bool
     requires { 1 ≤ sampling }
     ensures { result ≡ is_multiple sampling place }
 {
-    place.unsigned_abs() % sampling == 0
+    sampling == 1 || place.unsigned_abs() % sampling == 0
 }
 
 /// The line is one of the slice's, in the window.

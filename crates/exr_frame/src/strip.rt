@@ -21,6 +21,23 @@ pub(crate) struct Strip {
     pub(crate) skip: usize,
 }
 
+/// The number of multiples of `sampling` from one place to another, both included: by no division where each place is
+/// one, since each row asks.
+pub(crate) fn count_between(sampling: u32, from: i32, to: i32) -> u32
+    requires sampling { 1 ≤ sampling }
+    requires from_low { neg_ℤ (pos (2 ^ 30)) ≤ℤ from }
+    requires from_high { from ≤ℤ pos (2 ^ 30) }
+    requires to_low { (from -ℤ pos 1) ≤ℤ to }
+    requires to_high { to ≤ℤ pos (2 ^ 30) }
+    ensures { result ≡ sample_count_of sampling from to }
+{
+    if sampling == 1 {
+        (i64::from(to) - i64::from(from) + 1) as u32
+    } else {
+        sample_count(sampling, from, to)
+    }
+}
+
 /// How many multiples come before a place, from another place on.
 fn count_before(sampling: u32, from: i32, to: i32) -> u64
     requires sampling { 1 ≤ sampling }
@@ -29,7 +46,7 @@ fn count_before(sampling: u32, from: i32, to: i32) -> u64
     requires high { to ≤ℤ pos (2 ^ 30) }
     ensures { result ≡ count_before sampling from to }
 {
-    u64::from(sample_count(sampling, from, to - 1))
+    u64::from(count_between(sampling, from, to - 1))
 }
 
 /// Where the sample with so many lines and columns before it begins.
@@ -59,7 +76,7 @@ fn strip_between(
     ensures { MatchOption result (HasNone layout.now region number y) (IsStrip layout.now region number y) }
 {
     let window = layout.window();
-    let samples = sample_count(spot.sampling, low, high);
+    let samples = count_between(spot.sampling, low, high);
     if samples == 0 {
         return None;
     }

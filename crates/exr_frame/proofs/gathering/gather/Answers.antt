@@ -1,9 +1,4 @@
-use Rattle.std.proofs.Common.{rules, arith, refl, ap, sym, subst, inl, inr, w32, pos, ◌≡◌, ◌∙◌, ◌<◌, ◌≤◌, ◌+◌, ◌-◌, ◌*◌, ◌^◌, ◌+ℤ◌, ◌-ℤ◌, nat_abs, ℕ, ℤ, List, [], Option, Some, None, length, take, drop, to_z, of_z, true, false, get_or, slice_index}
-use Rattle.std.proofs.lemmas.Int.{ints}
-use Rattle.std.specs.List.{sum_by}
-use Rattle.exr_base.specs.Shape.{row_bytes_of, line_bytes_of, lines_bytes_of, raw_size_of, height_of}
-use Rattle.exr_frame.specs.Gather.{IsGrown, raw_place, buffer_byte, IsReadRow, IsReadLine, IsReadLines}
-use Rattle.exr_frame.specs.Place.{spots_of}
+use Rattle.std.proofs.Common.{ap, length}
 use Rattle.exr_frame.proofs.Gathered.{all_read}
 use Rattle.exr_frame.proofs.gathering.gather.Goals as goal
 

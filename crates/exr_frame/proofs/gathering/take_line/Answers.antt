@@ -1,8 +1,7 @@
-use Rattle.std.proofs.Common.{rules, arith, refl, ap, sym, subst, inl, inr, w32, pos, ◌≡◌, ◌∙◌, ◌<◌, ◌≤◌, ◌+◌, ◌-◌, ◌*◌, ◌^◌, ◌+ℤ◌, ◌-ℤ◌, nat_abs, ℕ, ℤ, List, [], Option, Some, None, length, take, drop, to_z, of_z, true, false, get_or, slice_index}
-use Rattle.std.proofs.lemmas.Int.{ints}
+use Rattle.std.proofs.Common.{rules, arith, subst, w32, ◌≡◌, ℕ, ℤ, length, take, to_z, of_z}
 use Rattle.std.specs.List.{sum_by}
-use Rattle.exr_base.specs.Shape.{row_bytes_of, line_bytes_of, lines_bytes_of, raw_size_of, height_of}
-use Rattle.exr_frame.specs.Gather.{IsGrown, raw_place, buffer_byte, IsReadRow, IsReadLine, IsReadLines}
+use Rattle.exr_base.specs.Shape.{row_bytes_of, line_bytes_of}
+use Rattle.exr_frame.specs.Gather.{IsGrown, raw_place, buffer_byte, IsReadLine}
 use Rattle.exr_frame.specs.Place.{spots_of}
 use Rattle.exr_frame.proofs.Gathered.{line_read_more}
 use Rattle.exr_frame.proofs.Lined.{sums_all}

@@ -1,7 +1,5 @@
-use Rattle.std.proofs.Common.{take}
-use Rattle.std.specs.List.{sum_by}
-use Rattle.exr_base.specs.Shape.{row_bytes_of, lines_bytes_of}
-use Rattle.exr_frame.specs.Gather.{IsGrown, raw_place, buffer_byte, IsReadLine, IsReadLines}
+use Rattle.exr_base.specs.Shape.{lines_bytes_of}
+use Rattle.exr_frame.specs.Gather.{IsGrown, raw_place, buffer_byte, IsReadLines}
 use Rattle.exr_frame.specs.Place.{spots_of}
 use Rattle.exr_frame.proofs.gathering.take_lines.Given as goal
 

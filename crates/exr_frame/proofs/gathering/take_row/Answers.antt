@@ -1,14 +1,10 @@
-use Rattle.std.proofs.Common.{rules, arith, refl, ap, sym, subst, inl, inr, w32, pos, ◌≡◌, ◌∙◌, ◌<◌, ◌≤◌, ◌+◌, ◌-◌, ◌*◌, ◌^◌, ◌+ℤ◌, ◌-ℤ◌, nat_abs, ℕ, ℤ, List, [], Option, Some, None, length, take, drop, to_z, of_z, true, false, get_or, slice_index}
-use Rattle.std.proofs.lemmas.Int.{ints}
-use Rattle.std.specs.List.{sum_by}
+use Rattle.std.proofs.Common.{rules, ◌≡◌, ◌*◌, length}
 use Rattle.std.proofs.lemmas.Result.{IfOk-weaker}
 use Rattle.exr_base.specs.Channel.{bytes_of}
 use Rattle.exr_base.specs.Sampling.{sample_count_of}
-use Rattle.exr_base.specs.Shape.{row_bytes_of, line_bytes_of, lines_bytes_of, raw_size_of, height_of}
-use Rattle.exr_frame.specs.Gather.{IsGrown, strided_byte, held_byte, line_place, raw_place, buffer_byte, IsReadRow, IsReadLine, IsReadLines}
+use Rattle.exr_frame.specs.Gather.{IsGrown, strided_byte, held_byte, line_place}
 use Rattle.exr_frame.specs.Place.{spots_of, spot_at}
-use Rattle.exr_frame.specs.Plan.{channel_at}
-use Rattle.exr_frame.specs.Rows.{IsInRow, IsLineOf, IsStrip, HasNone, IsOfRow, row_place, has_line}
+use Rattle.exr_frame.specs.Rows.{IsInRow, IsStrip, HasNone, IsOfRow, row_place}
 use Rattle.exr_frame.proofs.Gathered.{row_nothing_taken, row_taken, strip_few}
 use Rattle.exr_frame.proofs.Rowed.{spot_here}
 use Rattle.exr_frame.proofs.gathering.take_row.Goals as goal
