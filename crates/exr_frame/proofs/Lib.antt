@@ -1,4 +1,5 @@
 pub mod Channelled
+pub mod Chunks
 pub mod Columns
 pub mod Counted
 pub mod Found

@@ -119,7 +119,7 @@ pub(crate) fn is_side_inside(from: i32, to: i32, low: i32, high: i32) -> bool
     low <= from && to <= high
 }
 
-fn is_inside(a: Box2i, b: Box2i) -> bool
+pub(crate) fn is_inside(a: Box2i, b: Box2i) -> bool
     ensures { result ≡ is_inside a b }
 {
     is_side_inside(a.x0, a.x1, b.x0, b.x1) && is_side_inside(a.y0, a.y1, b.y0, b.y1)
