@@ -1,5 +1,4 @@
 pub mod Channelled
-pub mod Chunks
 pub mod Columns
 pub mod Counted
 pub mod Found

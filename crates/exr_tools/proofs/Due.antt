@@ -79,7 +79,7 @@ moved file d n g head bytes frame plan found granted second =
     let heads = one_value (head_of file) (second.head, second.bytes) (head, bytes) second.found found in
     let other : IsGranted head d second.frame second.plan = subst (λ (x : Head × ℕ). IsGranted x.0 d second.frame second.plan) heads second.granted in
     let same_head : IsFirstFaultOf file head bytes d.part (chunks_asked head d second.frame) second.rank n g =
-        subst (λ (x : Head × ℕ). IsFirstFaultOf file x.0 x.1 d.part (chunks_asked x.0 d second.frame) second.rank n g) heads second.first in
+    subst (λ (x : Head × ℕ). IsFirstFaultOf file x.0 x.1 d.part (chunks_asked x.0 d second.frame) second.rank n g) heads second.first in
     subst (λ chunks. IsFirstFaultOf file head bytes d.part chunks second.rank n g) (chunks_are head d second.frame frame second.plan plan other granted) same_head
 
 -- a first fault is one

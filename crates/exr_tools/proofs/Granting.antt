@@ -1,8 +1,9 @@
 -- What a grant says of its part, of the window and of the layout; and stops of what is asked.
-use Rattle.std.proofs.Common.{◌≡◌, ◌<◌, ◌≤◌, ◌^◌, ℕ, ℤ, Bool, true, false, not, ◌||◌, ◌&&◌, IsTrue, List, length, replicate, Option, Result, Ok, Err, refl, sym, ap, subst, ◌∙◌, arith, ◌≤ℤ◌}
+use Rattle.std.proofs.Common.{◌≡◌, ◌<◌, ◌≤◌, ◌^◌, ℕ, ℤ, Bool, true, false, not, ◌||◌, IsTrue, List, ◌++◌, take, drop, length, Ok, refl, sym, ap, subst, arith, ◌≤ℤ◌}
 use Rattle.std.specs.Prelude.{int_le, int_lt}
 use Rattle.std.proofs.lemmas.Bool.{and_parts}
 use Rattle.std.proofs.lemmas.Int.{ints}
+use Rattle.std.proofs.lemmas.List.{take_at}
 use Rattle.exr_base.specs.declared.shape.Box2i.{Box2i}
 use Rattle.exr_base.specs.declared.refusal.Refusal.{Refusal}
 use Rattle.exr_base.specs.declared.refusal.Refusal.TheVariants as refusal
@@ -19,11 +20,14 @@ use Rattle.exr_request.specs.declared.fault.RequestStop.TheVariants as stops
 use Rattle.exr_request.specs.Demand.{Demand}
 use Rattle.exr_request.specs.Request.{is_window_of, window_asked, IsGranted, IsRefused, IsRefusal}
 use Rattle.exr_request.proofs.Passed.{readable, matched}
-use Rattle.exr_reader.specs.Window.{is_raw, is_flat}
+use Rattle.exr_block.specs.declared.fault.ChunkFault.{ChunkFault}
+use Rattle.exr_reader.specs.declared.cause.ReadCause.{ReadCause}
+use Rattle.exr_reader.specs.declared.cause.ReadCause.TheVariants as why
+use Rattle.exr_reader.specs.Reading.{HasCause}
+use Rattle.exr_reader.specs.Window.{is_raw, is_flat, IsFirstFaultOf}
 use Rattle.exr_tools.specs.declared.stop.Stop.{Stop}
-use Rattle.exr_tools.specs.declared.stop.Stop.TheVariants.{NoMemory, Request, Form}
-use Rattle.exr_tools.specs.Stops.{stop_asked, stop_of_request}
-use Rattle.exr_tools.specs.Run.{IsRefusedBy, IsUnread, HasReason}
+use Rattle.exr_tools.specs.Stops.{stop_asked, stop_of_request, stop_of_reading}
+use Rattle.exr_tools.specs.Run.{chunks_asked, HasFirstFault, IsUnread, HasReason}
 
 -- ---- windows
 
@@ -97,3 +101,21 @@ pub refused_reason : (r : Refusal RequestStop) (file : List ℕ) (d : Demand) (h
 refused_reason (refusal.Fault why) file d head bytes T read found refused =
     by_stop why (λ due. IsUnread due file d) T read (λ told. asked_due why file d head bytes (found told) refused)
 refused_reason refusal.NoMemory file d head bytes T read found refused = tt
+
+-- the reason of a cause of reading
+pub reading_reason : (cause : ReadCause) (part : ℕ) (file : List ℕ) (d : Demand) (T rose rose' : Type 0) (P : ℕ → ChunkFault → Type 0) → part ≡ d.part → (rose → rose')
+    → ((n : ℕ) (f : ChunkFault) → P n f → T → HasFirstFault file d n f) → HasCause cause P rose
+    → HasReason (stop_of_reading part cause) (λ _. ⊥) (λ due. T → IsUnread due file d) rose' ⊥
+reading_reason why.NoMemory part file d T rose rose' P same up first has = tt
+reading_reason why.Read part file d T rose rose' P same up first has = up has
+reading_reason (why.Chunk n f) part file d T rose rose' P same up first has = λ told. (refl, (same, first n f has told))
+
+-- the first fault of a granted window
+pub first_of_window : (file : List ℕ) (head : Head) (bytes : ℕ) (d : Demand) (frame : Frame) (plan : Plan) (rank n : ℕ) (f : ChunkFault) → head_of file ≡ Ok (head, bytes) → IsGranted head d frame plan
+    → IsFirstFaultOf file head bytes d.part (chunks_asked head d frame) rank n f → HasFirstFault file d n f
+first_of_window file head bytes d frame plan rank n f found granted first =
+    record { head = head; bytes = bytes; frame = frame; plan = plan; found = found; granted = granted; rank = rank; first = first }
+
+-- a buffer that was given back whole
+pub given_back : (given items : List ℕ) (n : ℕ) → length given ≡ n → take n (given ++ drop (length given) items) ≡ given
+given_back given items n e = take_at given (drop (length given) items) n e

@@ -106,8 +106,10 @@ fn stream_buffer<W: World, S: Source, G: Gate>(
         (λ due. IsTrue S.means.tells → IsUnread due (S.means.content stream.old.source) (demand_of extraction.now.asked))
         (Rose (S.means.faults stream.old.source) (S.means.faults stream.new.source)) ⊥) }
 {
-    let granted = request(alloc, stream.head(), &extraction.asked)?;
-    filled(alloc, stream, &granted, extraction, gate)
+    match request(alloc, stream.head(), &extraction.asked) {
+        Ok(granted) => filled(alloc, stream, &granted, extraction, gate),
+        Err(refusal) => Err(Stop::from(refusal)),
+    }
 }
 
 /// The buffer of what is asked of a source's file, and the source.
