@@ -45,3 +45,16 @@ not_both head d f plan stop granted (inr (part, asked, u)) =
     let also = granted.asked in
     let same : part ≡ granted.part = cc in
     not_fit d granted.part f plan stop granted.fit (subst (λ (h : Header). IsUnfit d h stop) same u)
+
+-- two frames that are granted say the same, and their slices have the same channels
+pub granted_alike : (head : Head) (d : Demand) (f g : Frame) (p q : Plan) → IsGranted head d f p → IsGranted head d g q → AreAlike f g × (p.channels.items ≡ q.channels.items)
+granted_alike head d f g p q a b =
+    let asked = a.asked in
+    let also = b.asked in
+    let same : b.part ≡ a.part = cc in
+    let other = subst (λ (h : Header). IsFit d h g q) same b.fit in
+    let alike = arranged_alike d a.part f g a.fit.arranged other.arranged in
+    let tested = tested_alike a.part f g alike in
+    let x = a.fit.tested in
+    let y = other.tested in
+    (alike, cc)

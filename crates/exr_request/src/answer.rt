@@ -170,7 +170,10 @@ fn answered(alloc: Global, part: &Header, asked: &Asked) -> Result<Granted, Refu
     framed(alloc, part, asked, window, channels.as_slice())
 }
 
-/// The layout of the buffer that is asked for, with its plan for the part, or the first reason why it cannot be had.
+/// The layout of the buffer that is asked for, with its plan for the part, or the first reason why it cannot be had (own):
+/// the part is not there (`NoPart`), it is deep or compressed (`Form`), the window is empty or not within the data window
+/// (`Window`), channels of different samplings share lines or pixels (`Mixed`), the planes are no layout (`Layout`), the
+/// buffer would have more than 2^30 bytes (`TooLarge`), or a kind is not the part's (`Match`). No buffer is made.
 pub fn request(
     alloc: Global,
     head: &FileHead,

@@ -130,6 +130,23 @@ fn refused(alloc: Global, head: &FileHead, asked: &Asked) -> Result<RequestStop,
 }
 
 #[test]
+fn choices(rt: HostRuntime) {
+    let asked = Asked::new(None, None, None, None, None, None);
+    assert_eq!(rt; asked.layout, Arrangement::Planar);
+    assert_eq!(rt; (asked.part, asked.pad, asked.fill), (0, 0, 0));
+    let asked = Asked::new(
+        Some(1),
+        None,
+        Some(Arrangement::Lines),
+        None,
+        Some(2),
+        Some(3),
+    );
+    assert_eq!(rt; asked.layout, Arrangement::Lines);
+    assert_eq!(rt; (asked.part, asked.pad, asked.fill), (1, 2, 3));
+}
+
+#[test]
 fn pixels(rt: HostRuntime) -> Result<(), Fail> {
     let alloc = rt.alloc();
     let head = head(alloc, BGR, 0, SMALL)?;
