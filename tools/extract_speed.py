@@ -1,7 +1,7 @@
 #!/usr/bin/env python3
 """Measures `exr extract` on a picture of 4096 by 2048 pixels with four HALF channels (64 MiB of samples), as scan lines and
-in tiles of 64 by 64, on a tmpfs, beside a C twin of the same reads, copies and writes (gcc -O2) and beside `cp`, in one run.
-Prints the table of docs/PERFORMANCE.md: the ratio of the least times, and the peak memory of one more run.
+in tiles of 64 by 64, in planes, lines and pixels and of a quarter of its window, on a tmpfs, beside a C twin of the same reads,
+copies and writes (gcc -O2: rows by memcpy, pixels by two bytes a sample) and beside `cp` of the file, in one run. Prints the table of docs/PERFORMANCE.md: the ratio of the least times, and the peak memory of one more run.
 
 Use: tools/extract_speed.py [ROUNDS], at the top of the repository, after `rt ci exr` has built the program.
 """
@@ -10,7 +10,7 @@ import os, struct, subprocess, sys, tempfile, time
 ROUNDS = int(sys.argv[1]) if len(sys.argv) > 1 else 15
 WIDTH, HEIGHT, NAMES = 4096, 2048, ["A", "B", "G", "R"]
 PROGRAM = os.path.abspath("crates/exr/out/exr")
-TWIN = os.path.abspath("tools/twins/extract_planes.c")
+TWIN = os.path.abspath("tools/twins/extract.c")
 LAUNCHER = os.path.abspath("tools/twins/peak.c")
 
 
@@ -63,24 +63,31 @@ def peak_of(launcher, words):
     return peak / 1024
 
 
-def measure(folder, twin, launcher, shape, tile):
-    source, planes, twin_planes, copy = (os.path.join(folder, n) for n in ("in.exr", "out.raw", "twin.raw", "copy"))
+def measure(folder, twin, launcher, shape, tile, rows):
+    """Measures a file, in each of the rows: what is asked, the layout, and the window."""
+    source, buffer, twin_buffer, copy = (os.path.join(folder, n) for n in ("in.exr", "out.raw", "twin.raw", "copy"))
     front = make(source, tile)
-    kinds = {
-        "exr extract": [PROGRAM, "extract", "in=" + source, "out=" + planes],
-        "C twin": [twin, source, twin_planes, str(front), str(WIDTH), str(HEIGHT), str(len(NAMES)), str(tile)],
-        "cp": ["/bin/cp", source, copy],
-    }
-    least = {kind: float("inf") for kind in kinds}
-    for _ in range(ROUNDS):
+    for name, layout, window in rows:
+        sides = [str(n) for n in window]
+        kinds = {
+            "exr extract": [PROGRAM, "extract", "in=" + source, "out=" + buffer, "layout=" + layout, "window=" + ",".join(sides)],
+            "C twin": [twin, source, twin_buffer, str(front), str(WIDTH), str(HEIGHT), str(len(NAMES)), str(tile), layout] + sides,
+            "cp": ["/bin/cp", source, copy],
+        }
+        least = {kind: float("inf") for kind in kinds}
+        for _ in range(ROUNDS):
+            for kind, words in kinds.items():
+                least[kind] = min(least[kind], timed(words))
+        if open(buffer, "rb").read() != open(twin_buffer, "rb").read():
+            sys.exit("the two buffers differ")
         for kind, words in kinds.items():
-            least[kind] = min(least[kind], timed(words))
-    if open(planes, "rb").read() != open(twin_planes, "rb").read():
-        sys.exit("the two buffers differ")
-    for kind, words in kinds.items():
-        ratios = [f"{least[kind] / least[other]:.2f}" for other in ("C twin", "cp")]
-        print(f"| {shape} | {kind} | {' | '.join(ratios)} | {peak_of(launcher, words):.1f} |")
+            ratios = [f"{least[kind] / least[other]:.2f}" for other in ("C twin", "cp")]
+            print(f"| {shape}, {name} | {kind} | {' | '.join(ratios)} | {peak_of(launcher, words):.1f} |", flush=True)
 
+
+WHOLE = (0, 0, WIDTH - 1, HEIGHT - 1)
+QUARTER = (WIDTH // 4, HEIGHT // 4, WIDTH * 3 // 4 - 1, HEIGHT * 3 // 4 - 1)
+ROWS = [("planes", "planar", WHOLE), ("lines", "lines", WHOLE), ("pixels", "pixels", WHOLE), ("a quarter in planes", "planar", QUARTER)]
 
 with tempfile.TemporaryDirectory(dir="/dev/shm") as folder:
     twin, launcher = os.path.join(folder, "twin"), os.path.join(folder, "peak")
@@ -88,5 +95,5 @@ with tempfile.TemporaryDirectory(dir="/dev/shm") as folder:
     subprocess.run(["gcc", "-O2", "-o", launcher, LAUNCHER], check=True)
     print("| file | what | ratio to the C twin | ratio to `cp` | peak memory, MiB |")
     print("|---|---|---|---|---|")
-    measure(folder, twin, launcher, "scan lines", 0)
-    measure(folder, twin, launcher, "tiles of 64 by 64", 64)
+    measure(folder, twin, launcher, "scan lines", 0, ROWS)
+    measure(folder, twin, launcher, "tiles of 64 by 64", 64, ROWS)

@@ -7,12 +7,24 @@ exr reads OpenEXR files. Each command is a line of words KEY=VALUE.
       Prints what the head of a.exr says: of each part its kind, data window,
       channels and attributes. Every OpenEXR 2 file of one level is read.
 
-  exr extract in=a.exr out=b.raw part=0
-      Writes the samples of a part of a.exr into b.raw: a plane a channel, one
-      behind the other, each row by row from the top, every sample as the file
-      has it. Parts count from 0, and part=0 can be left out. So far a part of
-      scan lines or tiles is read that has HALF channels, each with a sample at
-      every pixel, and no compression.
+  exr extract in=a.exr out=b.raw
+      Writes the samples of a part of a.exr into b.raw, every sample as the file
+      has it. More words say which samples, and where each stands:
+        part=0                the part, counted from 0
+        window=0,0,63,31      the pixels: x0,y0,x1,y1, both ends included; else
+                              the data window
+        channels=R,G,Z:float  the channels in their order, each with its kind
+                              (uint, half or float) where it is given; else all
+        layout=planar         a plane a channel, one behind the other;
+                              layout=lines: of each line a line a channel;
+                              layout=pixels: the samples of a pixel side by side
+        pad=0                 bytes behind each line, or behind each pixel where
+                              pixels lie side by side
+        fill=0                the bits of samples of channels that the part has
+                              not
+        byte=0                what each other byte is
+        workers=1             how many threads may work, 1 to 16
+      So far a part of scan lines or tiles without compression is read.
 
   exr --help       this text
   exr --version    the version
@@ -52,7 +64,14 @@ mod tests {
         }
         for word in [
             "exr header in=a.exr",
-            "exr extract in=a.exr out=b.raw part=0",
+            "exr extract in=a.exr out=b.raw\n",
+            "window=",
+            "channels=",
+            "layout=pixels",
+            "pad=",
+            "fill=",
+            "byte=",
+            "workers=",
             "--help",
             "--version",
             "  3  ",
