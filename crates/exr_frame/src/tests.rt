@@ -453,3 +453,86 @@ fn cuts_and_fills(rt: HostRuntime) -> Result<(), Fail> {
     assert_eq!(rt; into.as_slice(), LAST_SPARSE);
     Ok(())
 }
+
+// ---- a line of three channels, read from pixels with padding
+
+/// The HALF channels `B`, `G` and `R`.
+const THREE_CHANNELS: &[u8] = b"\x37\0\0\0B\0\x01\0\0\0\0\0\0\0\x01\0\0\0\x01\0\0\0\
+    G\0\x01\0\0\0\0\0\0\0\x01\0\0\0\x01\0\0\0R\0\x01\0\0\0\0\0\0\0\x01\0\0\0\x01\0\0\0\0";
+
+const FOUR_BY_THREE: &[u8] = b"\0\0\0\0\0\0\0\0\x03\0\0\0\x02\0\0\0";
+
+const THREE_LINES: Box2i = Box2i {
+    x0: 0,
+    y0: 0,
+    x1: 3,
+    y1: 2,
+};
+
+const LINE_0: Box2i = Box2i {
+    x0: 0,
+    y0: 0,
+    x1: 3,
+    y1: 0,
+};
+
+/// The samples of a region of a part, read from a buffer.
+fn gathered(
+    alloc: Global,
+    layout: &Layout,
+    part: &Header,
+    region: Box2i,
+    from: &[u8],
+) -> Result<Vec<u8>, Fail>
+    requires part { IsPicture part.now }
+    requires region { IsRegion region }
+{
+    let Ok(plan) = match_part(alloc, layout, part) else {
+        return Err(Fail::from("no plan"));
+    };
+    let shape = Shape {
+        channels: part.channels(),
+        region,
+    };
+    let is_asked_well = plan.is_full()
+        && is_inside(region, layout.window())
+        && shape.raw_size() <= 1000
+        && from.len() as u64 == layout.buffer();
+    if !is_asked_well {
+        return Err(Fail::from("another layout"));
+    }
+    Ok(gather(alloc, layout, &plan, &shape, from)?)
+}
+
+#[test]
+fn a_line_of_three_channels(rt: HostRuntime) -> Result<(), Fail> {
+    let alloc = rt.alloc();
+    let slices = vec![in alloc; half(b"B", 0)?, half(b"G", 2)?, half(b"R", 4)?]?;
+    let run = Run {
+        at: 0,
+        stride: 8,
+        sampling: 1,
+        slices,
+    };
+    let plane = Plane {
+        base: 0,
+        stride: 32,
+        sampling: 1,
+        runs: vec![in alloc; run]?,
+    };
+    let layout = laid_out(vec![in alloc; plane]?, THREE_LINES, 96)?;
+    let mut buffer = Vec::new(alloc);
+    for _pixel in 0..12u8 {
+        buffer.extend_from_slice(b"\0\x3c\0\x40\0\x42\xee\xee")?;
+    }
+    let (head, _) = read_head(alloc, &head_of(alloc, THREE_CHANNELS, FOUR_BY_THREE)?)?;
+    let [part] = head.parts() else {
+        return Err(Fail::from("one part"));
+    };
+    let line = gathered(alloc, &layout, part, LINE_0, buffer.as_slice())?;
+    assert_eq!(rt;
+        line.as_slice(),
+        b"\0\x3c\0\x3c\0\x3c\0\x3c\0\x40\0\x40\0\x40\0\x40\0\x42\0\x42\0\x42\0\x42".as_slice()
+    );
+    Ok(())
+}

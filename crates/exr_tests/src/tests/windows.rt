@@ -58,7 +58,11 @@ fn what_is_asked_for_is_written(rt: HostRuntime) -> Result<(), Fail> {
 fn what_cannot_be_had(rt: HostRuntime) -> Result<(), Fail> {
     let alloc = rt.alloc();
     let rows: [(&[u8], &[&str], RequestFault); 14] = [
-        (ONE_SAMPLE, &["part=1", "window=0,0,1,0"], RequestFault::NoPart),
+        (
+            ONE_SAMPLE,
+            &["part=1", "window=0,0,1,0"],
+            RequestFault::NoPart,
+        ),
         (ONE_SAMPLE, &["window=0,0,1,0"], RequestFault::Window),
         (ONE_SAMPLE, &["window=0,0,-1,0"], RequestFault::Window),
         (ONE_SAMPLE, &["window=0,0,0,-1"], RequestFault::Window),
@@ -126,5 +130,56 @@ fn what_cannot_be_had(rt: HostRuntime) -> Result<(), Fail> {
         assert!(rt; got.kept.is_none());
         assert_eq!(rt; got.printed.len(), 0);
     }
+    Ok(())
+}
+
+// A picture of one pixel at the greatest column and the least line.
+#[test]
+fn a_window_far_out(rt: HostRuntime) -> Result<(), Fail> {
+    let alloc = rt.alloc();
+    let mut file = ONE_SAMPLE.to_vec(alloc)?;
+    for (place, bytes) in [
+        (97usize, [0, 0, 0, 0x40]),
+        (101, [0, 0, 0, 0xc0]),
+        (105, [0, 0, 0, 0x40]),
+        (109, [0, 0, 0, 0xc0]),
+        (285, [0, 0, 0, 0xc0]),
+    ] {
+        for (k, byte) in bytes.iter().enumerate() {
+            *file.get_mut(place.saturating_add(k)).ok_or("a place")? = *byte;
+        }
+    }
+    let words = extract_with(
+        alloc,
+        &["window=1073741824,-1073741824,1073741824,-1073741824"],
+    )?;
+    let got = outcome_of(&rt, alloc, &words, &file, NONE)?;
+    assert_eq!(rt; got.stop, None);
+    assert_eq!(rt;
+        got.kept.as_ref().map(|v| v.as_slice()),
+        Some(ONE_SAMPLE_RAW)
+    );
+    Ok(())
+}
+
+// Channels that the part lacks, as many as a request may name, and one more.
+#[test]
+fn a_thousand_channels(rt: HostRuntime) -> Result<(), Fail> {
+    let alloc = rt.alloc();
+    let mut list = String::from_str(alloc, "channels=Y")?;
+    for number in 1..1024u32 {
+        let name = format!(in alloc; ",c{number}")?;
+        list.push_str(name.as_str())?;
+    }
+    let more = ["layout=pixels", "fill=770", list.as_str()];
+    let got = outcome_of(&rt, alloc, &extract_with(alloc, &more)?, ONE_SAMPLE, NONE)?;
+    assert_eq!(rt; got.stop, None);
+    let kept = got.kept.ok_or("a file")?;
+    assert_eq!(rt; kept.len(), 2048);
+    assert_eq!(rt; &kept[..4], b"\0<\x02\x03".as_slice());
+    list.push_str(",d")?;
+    let more = ["layout=pixels", "fill=770", list.as_str()];
+    let got = outcome_of(&rt, alloc, &extract_with(alloc, &more)?, ONE_SAMPLE, NONE)?;
+    assert_eq!(rt; got.stop, Some(Stop::Words { position: 5 }));
     Ok(())
 }
