@@ -1,6 +1,6 @@
 //! Windows of small files: the rounds in which they are read, where reading stops, and which chunks are looked at.
 
-ghost use Rattle.std.specs.Prelude.{◌≡◌, ◌≤◌, ◌≤ℤ◌, IfOk};
+ghost use Rattle.std.specs.Prelude.{◌≡◌, ◌≤◌, ◌≤ℤ◌, true};
 ghost use Rattle.exr_base.specs.Shape.{IsRegion};
 ghost use Rattle.exr_chunks.specs.Pixels.{IsInside};
 
@@ -116,7 +116,6 @@ fn layout(alloc: Global, window: Box2i, stride: u64, bytes: u64) -> Result<Layou
     requires region { IsRegion window }
     requires columns { window.x0 ≤ℤ window.x1 }
     requires rows { window.y0 ≤ℤ window.y1 }
-    ensures { IfOk result (λ l. (l.window ≡ window) × (l.buffer ≡ bytes)) }
 {
     let slice = Slice {
         channel: Name::new(b"Y").ok_or("a name")?,
@@ -149,22 +148,41 @@ fn layout(alloc: Global, window: Box2i, stride: u64, bytes: u64) -> Result<Layou
 /// What a read of a stream's window answers, and the buffer, whose bytes began as 0xee; None where the part is not one to be read.
 type Answer = (Result<(), ReadStop>, Vec<u8>);
 
-/// Reads a window that has the columns and the lines of the data window, or fewer.
+fn at_most(a: i32, b: i32) -> bool
+    ensures { result ≡ true → a ≤ℤ b }
+{
+    a <= b
+}
+
+/// Whether a window has pixels, all of them in another one.
+fn is_inside(all: Box2i, window: Box2i) -> bool
+    ensures { result ≡ true → IsInside all window }
+{
+    if at_most(all.x0, window.x0) && at_most(window.x0, window.x1) && at_most(window.x1, all.x1) {
+        if at_most(all.y0, window.y0)
+            && at_most(window.y0, window.y1)
+            && at_most(window.y1, all.y1)
+        {
+            return true;
+        }
+    }
+    false
+}
+
+/// Reads the window of a layout of the first part.
 fn read_stream(
     alloc: Global,
     stream: &mut Stream<Brand, MemSource>,
-    all: Box2i,
     layout: &Layout,
     round: u32,
 ) -> Result<Answer, Fail>
-    requires inside { IsInside all layout.now.window }
-    requires round { 1 ≤ round }
+    requires { 1 ≤ round }
 {
     if stream.head().parts().is_empty() {
         return Err(Fail::from("no part"));
     }
     let part = stream.header(0);
-    if part.window() != all || !is_flat(part) {
+    if !is_inside(part.window(), layout.window()) || !is_flat(part) {
         return Err(Fail::from("another part"));
     }
     let Ok(plan) = match_part(alloc, layout, part) else {
@@ -189,19 +207,17 @@ fn read_stream(
 fn opened(
     alloc: Global,
     bytes: Vec<u8>,
-    all: Box2i,
     layout: &Layout,
     round: u32,
     failing: u64,
 ) -> Result<Option<Answer>, Fail>
-    requires inside { IsInside all layout.now.window }
-    requires round { 1 ≤ round }
+    requires { 1 ≤ round }
 {
     let fails = vec![in alloc; failing]?;
     let source = MemSource::new(alloc, "a", bytes, Vec::new(alloc), fails)?;
     match Stream::open(alloc, source) {
         Ok(mut stream) => {
-            let answer = read_stream(alloc, &mut stream, all, layout, round);
+            let answer = read_stream(alloc, &mut stream, layout, round);
             let _source = stream.into_source();
             Ok(Some(answer?))
         }
@@ -215,17 +231,10 @@ fn opened(
 }
 
 /// The same of a file whose reads do not fail.
-fn read(
-    alloc: Global,
-    bytes: Vec<u8>,
-    all: Box2i,
-    layout: &Layout,
-    round: u32,
-) -> Result<Answer, Fail>
-    requires inside { IsInside all layout.now.window }
-    requires round { 1 ≤ round }
+fn read(alloc: Global, bytes: Vec<u8>, layout: &Layout, round: u32) -> Result<Answer, Fail>
+    requires { 1 ≤ round }
 {
-    match opened(alloc, bytes, all, layout, round, u64::MAX)? {
+    match opened(alloc, bytes, layout, round, u64::MAX)? {
         Some(answer) => Ok(answer),
         None => Err(Fail::from("not opened")),
     }
@@ -238,7 +247,7 @@ fn rounds_before_a_fault(rt: HostRuntime) -> Result<(), Fail> {
     let layout = layout(alloc, ALL_LINES, 2, 40)?;
     for (round, rounds, put) in [(16u32, 1u32, 16usize), (1, 17, 17), (5, 3, 15)] {
         let file = lines(alloc, Some(17))?;
-        let (answer, buffer) = read(alloc, file, ALL_LINES, &layout, round)?;
+        let (answer, buffer) = read(alloc, file, &layout, round)?;
         let cause = ReadCause::Chunk {
             index: 17,
             fault: ChunkFault::WrongPlace,
@@ -263,7 +272,7 @@ fn three_lines_of_twenty(rt: HostRuntime) -> Result<(), Fail> {
     let layout = layout(alloc, THREE_LINES, 3, 9)?;
     for misplaced in [None, Some(2), Some(6)] {
         let file = lines(alloc, misplaced)?;
-        let (answer, buffer) = read(alloc, file, ALL_LINES, &layout, 2)?;
+        let (answer, buffer) = read(alloc, file, &layout, 2)?;
         answer?;
         assert_eq!(rt;
             buffer.as_slice(),
@@ -274,12 +283,10 @@ fn three_lines_of_twenty(rt: HostRuntime) -> Result<(), Fail> {
 }
 
 /// How many reads of the tiles' file a window takes: the first whose failure is not met.
-fn reads(alloc: Global, layout: &Layout) -> Result<u64, Fail>
-    requires { IsInside ALL_TILES layout.now.window }
-{
+fn reads(alloc: Global, layout: &Layout) -> Result<u64, Fail> {
     for number in 0..64u64 {
         let file = tiles(alloc)?;
-        if let Some((Ok(()), _)) = opened(alloc, file, ALL_TILES, layout, 4, number)? {
+        if let Some((Ok(()), _)) = opened(alloc, file, layout, 4, number)? {
             return Ok(number);
         }
     }
@@ -291,7 +298,7 @@ fn reads(alloc: Global, layout: &Layout) -> Result<u64, Fail>
 fn one_tile_of_nine(rt: HostRuntime) -> Result<(), Fail> {
     let alloc = rt.alloc();
     let one = layout(alloc, LAST_PIXEL, 2, 2)?;
-    let (answer, buffer) = read(alloc, tiles(alloc)?, ALL_TILES, &one, 1)?;
+    let (answer, buffer) = read(alloc, tiles(alloc)?, &one, 1)?;
     answer?;
     assert_eq!(rt; buffer.as_slice(), b"\x18\x30".as_slice());
     let all = layout(alloc, ALL_TILES, 10, 50)?;
