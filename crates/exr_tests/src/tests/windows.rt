@@ -15,6 +15,48 @@ fn extract_with<'a>(alloc: Global, more: &[&'a str]) -> Result<Vec<&'a str>, Fai
     Ok(words)
 }
 
+/// The file of one sample with an empty list of channels: a head of 259 bytes, and a chunk without data.
+fn without_channels(alloc: Global) -> Result<Vec<u8>, Fail> {
+    let mut bytes = ONE_SAMPLE[..8].to_vec(alloc)?;
+    bytes.extend_from_slice(b"channels\0chlist\0\x01\0\0\0\0")?;
+    bytes.extend_from_slice(&ONE_SAMPLE[47..277])?;
+    bytes.extend_from_slice(b"\x0b\x01\0\0\0\0\0\0\0\0\0\0\0\0\0\0")?;
+    Ok(bytes)
+}
+
+// The planes of a part without channels are none, and where channels share lines or pixels there have to be some; the second of
+// two planes of 2^20 by 2^20 samples stands behind 2^40 bytes.
+#[test]
+fn layouts_that_are_none(rt: HostRuntime) -> Result<(), Fail> {
+    let alloc = rt.alloc();
+    let bare = without_channels(alloc)?;
+    let got = outcome_of(&rt, alloc, &extract_with(alloc, &[])?, &bare, NONE)?;
+    assert_eq!(rt; got.stop, None);
+    assert_eq!(rt;
+        got.kept.as_ref().map(|v| v.as_slice()),
+        Some(b"".as_slice())
+    );
+    let mut vast = ONE_SAMPLE.to_vec(alloc)?;
+    for (place, byte) in [(105usize, 0xff), (106, 0xff), (107, 0x0f)] {
+        *vast.get_mut(place).ok_or("a place")? = byte;
+        *vast.get_mut(place.saturating_add(4)).ok_or("a place")? = byte;
+    }
+    let empty = LayoutFault::Empty { plane: 0 };
+    let huge = LayoutFault::Huge { plane: 1 };
+    let rows: [(&[u8], &str, RequestFault); 4] = [
+        (&bare, "layout=lines", RequestFault::Layout(empty)),
+        (&bare, "layout=pixels", RequestFault::Layout(empty)),
+        (&vast, "channels=Y,A", RequestFault::Layout(huge)),
+        (&vast, "channels=Y", RequestFault::TooLarge),
+    ];
+    for (file, more, fault) in rows {
+        let got = outcome_of(&rt, alloc, &extract_with(alloc, &[more])?, file, NONE)?;
+        assert_eq!(rt; got.stop, Some(Stop::Request(fault)), "{more}");
+        assert!(rt; got.kept.is_none());
+    }
+    Ok(())
+}
+
 #[test]
 fn what_is_asked_for_is_written(rt: HostRuntime) -> Result<(), Fail> {
     let alloc = rt.alloc();
