@@ -5,7 +5,9 @@ use super::runs::{NONE, outcome_of};
 use super::table::changed;
 use exr_tools::{LayoutFault, MatchFault, RequestFault, Stop};
 use std::alloc::Global;
+use std::process::Abort;
 use std::test::Fail;
+use std::thread::Threads;
 
 /// The words of an extraction, with more behind them.
 fn extract_with<'a>(alloc: Global, more: &[&'a str]) -> Result<Vec<&'a str>, Fail> {
@@ -57,42 +59,63 @@ fn layouts_that_are_none(rt: HostRuntime) -> Result<(), Fail> {
     Ok(())
 }
 
+/// A file, the words of the request, and what is written.
+const WRITTEN: [(&[u8], &[&str], &[u8]); 11] = [
+    (
+        THREE_CHANNELS,
+        &["layout=pixels", "pad=2", "byte=238"],
+        THREE_CHANNELS_PIXELS,
+    ),
+    (THREE_CHANNELS, &["channels=B,G,R"], THREE_CHANNELS_RAW),
+    (HALF_AND_FLOAT, &[], HALF_AND_FLOAT_RAW),
+    (HALF_AND_FLOAT, &["layout=lines"], HALF_AND_FLOAT_LINES),
+    (
+        ONE_SAMPLE,
+        &["channels=A:uint,Y", "fill=4294967295", "pad=1", "byte=7"],
+        b"\xff\xff\xff\xff\x07\0<\x07",
+    ),
+    (SAMPLED, &[], SAMPLED_RAW),
+    (SAMPLED, &["window=-1,-1,1,1"], b"\x04\0"),
+    (SAMPLED, &["window=-1,-1,-1,-1"], b""),
+    (TILES, &["window=4,4,4,4"], b"\x180"),
+    (
+        TWENTY_LINES,
+        &["window=0,17,0,18", "workers=16"],
+        b"\x11<\x12<",
+    ),
+    (MISPLACED_BLOCK, &["window=0,0,0,1"], b"\0<\x01<"),
+];
+
+/// What an extraction that succeeds writes.
+fn written_of(
+    rt: &(impl Abort + Threads + Sync),
+    alloc: Global,
+    file: &[u8],
+    more: &[&str],
+) -> Result<Vec<u8>, Fail> {
+    let words = extract_with(alloc, more)?;
+    let got = outcome_of(rt, alloc, &words, file, NONE)?;
+    assert_eq!(rt; got.stop, None, "{more:?}");
+    Ok(got.kept.ok_or("a file")?)
+}
+
 #[test]
 fn what_is_asked_for_is_written(rt: HostRuntime) -> Result<(), Fail> {
     let alloc = rt.alloc();
-    let two = changed(alloc, ONE_SAMPLE, 294, 0x40)?;
-    let rows: [(&[u8], &[&str], &[u8]); 12] = [
-        (
-            THREE_CHANNELS,
-            &["layout=pixels", "pad=2", "byte=238"],
-            THREE_CHANNELS_PIXELS,
-        ),
-        (THREE_CHANNELS, &["channels=B,G,R"], THREE_CHANNELS_RAW),
-        (HALF_AND_FLOAT, &[], HALF_AND_FLOAT_RAW),
-        (HALF_AND_FLOAT, &["layout=lines"], HALF_AND_FLOAT_LINES),
-        (&two, &["channels=Y,A", "fill=15360"], b"\0@\0<"),
-        (
-            ONE_SAMPLE,
-            &["channels=A:uint,Y", "fill=4294967295", "pad=1", "byte=7"],
-            b"\xff\xff\xff\xff\x07\0<\x07",
-        ),
-        (SAMPLED, &[], SAMPLED_RAW),
-        (SAMPLED, &["window=-1,-1,1,1"], b"\x04\0"),
-        (SAMPLED, &["window=-1,-1,-1,-1"], b""),
-        (TILES, &["window=4,4,4,4"], b"\x180"),
-        (
-            TWENTY_LINES,
-            &["window=0,17,0,18", "workers=16"],
-            b"\x11<\x12<",
-        ),
-        (MISPLACED_BLOCK, &["window=0,0,0,1"], b"\0<\x01<"),
-    ];
-    for (file, more, written) in rows {
-        let words = extract_with(alloc, more)?;
-        let got = outcome_of(&rt, alloc, &words, file, NONE)?;
-        assert_eq!(rt; got.stop, None, "{more:?}");
-        assert_eq!(rt; got.kept.as_ref().map(|v| v.as_slice()), Some(written));
+    for (file, more, wanted) in WRITTEN {
+        let written = written_of(&rt, alloc, file, more)?;
+        assert_eq!(rt; written.as_slice(), wanted, "{more:?}");
     }
+    Ok(())
+}
+
+// A channel that the part lacks.
+#[test]
+fn a_channel_that_is_filled(rt: HostRuntime) -> Result<(), Fail> {
+    let alloc = rt.alloc();
+    let two = changed(alloc, ONE_SAMPLE, 294, 0x40)?;
+    let written = written_of(&rt, alloc, &two, &["channels=Y,A", "fill=15360"])?;
+    assert_eq!(rt; written.as_slice(), b"\0@\0<".as_slice());
     Ok(())
 }
 
