@@ -32,34 +32,28 @@ fn attributes(alloc: Global, right: u8, bottom: u8, order: u8) -> Result<Vec<u8>
     Ok(bytes)
 }
 
-/// The place of each tile of five by five pixels in tiles of two by two, where its chunk stands behind a head of 305 bytes,
-/// and the numbers of its pixels, counted line by line.
-const TILES: [(u8, u8, u64, &[u8]); 9] = [
-    (0, 0, 377, &[0, 1, 5, 6]),
-    (1, 0, 405, &[2, 3, 7, 8]),
-    (2, 0, 433, &[4, 9]),
-    (0, 1, 457, &[10, 11, 15, 16]),
-    (1, 1, 485, &[12, 13, 17, 18]),
-    (2, 1, 513, &[14, 19]),
-    (0, 2, 537, &[20, 21]),
-    (1, 2, 561, &[22, 23]),
-    (2, 2, 585, &[24]),
+/// The tiles of 64 by 64 pixels of a picture of 65 by 65: their numbers across and down, where their chunks stand behind a head
+/// of 305 bytes, and the bytes of their samples.
+const TILES: [(u8, u8, u64, u16); 4] = [
+    (0, 0, 337, 8192),
+    (1, 0, 8549, 128),
+    (0, 1, 8697, 128),
+    (1, 1, 8845, 2),
 ];
 
-/// The file of these tiles: a pixel's sample is 0x3000 and its number.
+/// The file of these tiles: each sample has the number of its tile, counted row by row, as its low byte.
 fn tiles(alloc: Global) -> Result<Vec<u8>, Fail> {
     let mut bytes = b"v/1\x01\x02\x02\0\0".to_vec(alloc)?;
-    bytes.extend_from_slice(&attributes(alloc, 4, 4, 0)?)?;
-    bytes.extend_from_slice(b"tiles\0tiledesc\0\x09\0\0\0\x02\0\0\0\x02\0\0\0\0\0")?;
+    bytes.extend_from_slice(&attributes(alloc, 64, 64, 0)?)?;
+    bytes.extend_from_slice(b"tiles\0tiledesc\0\x09\0\0\0\x40\0\0\0\x40\0\0\0\0\0")?;
     for (_, _, entry, _) in TILES {
         bytes.extend_from_slice(&entry.to_le_bytes())?;
     }
-    for (tx, ty, _, pixels) in TILES {
-        bytes.extend_from_slice(&[tx, 0, 0, 0, ty, 0, 0, 0, 0, 0, 0, 0, 0, 0, 0, 0])?;
-        let size = (pixels.len() as u32).saturating_mul(2);
-        bytes.extend_from_slice(&size.to_le_bytes())?;
-        for pixel in pixels {
-            bytes.extend_from_slice(&[*pixel, 0x30])?;
+    for (across, down, _, size) in TILES {
+        bytes.extend_from_slice(&[across, 0, 0, 0, down, 0, 0, 0, 0, 0, 0, 0, 0, 0, 0, 0])?;
+        bytes.extend_from_slice(&u32::from(size).to_le_bytes())?;
+        for _sample in 0..size / 2 {
+            bytes.extend_from_slice(&[across + 2 * down, 0x3c])?;
         }
     }
     Ok(bytes)
@@ -100,15 +94,22 @@ const THREE_LINES: Box2i = Box2i {
 const ALL_TILES: Box2i = Box2i {
     x0: 0,
     y0: 0,
-    x1: 4,
-    y1: 4,
+    x1: 64,
+    y1: 64,
 };
 
 const LAST_PIXEL: Box2i = Box2i {
-    x0: 4,
-    y0: 4,
-    x1: 4,
-    y1: 4,
+    x0: 64,
+    y0: 64,
+    x1: 64,
+    y1: 64,
+};
+
+const FIRST_PIXEL: Box2i = Box2i {
+    x0: 0,
+    y0: 0,
+    x1: 0,
+    y1: 0,
 };
 
 /// A plane of the HALF channel Y over a window, whose lines have so many bytes.
@@ -293,16 +294,19 @@ fn reads(alloc: Global, layout: &Layout) -> Result<u64, Fail> {
     Err(Fail::from("too many reads"))
 }
 
-// A pixel of nine tiles takes one of their chunks, all pixels take nine.
+// A pixel of four tiles takes one of their chunks, all pixels take four.
 #[test]
-fn one_tile_of_nine(rt: HostRuntime) -> Result<(), Fail> {
+fn one_tile_of_four(rt: HostRuntime) -> Result<(), Fail> {
     let alloc = rt.alloc();
-    let one = layout(alloc, LAST_PIXEL, 2, 2)?;
-    let (answer, buffer) = read(alloc, tiles(alloc)?, &one, 1)?;
-    answer?;
-    assert_eq!(rt; buffer.as_slice(), b"\x18\x30".as_slice());
-    let all = layout(alloc, ALL_TILES, 10, 50)?;
-    let reads_of_one = reads(alloc, &one)?;
-    assert_eq!(rt; reads(alloc, &all)?, reads_of_one.saturating_add(8));
+    let all = layout(alloc, ALL_TILES, 130, 8450)?;
+    let first = layout(alloc, FIRST_PIXEL, 2, 2)?;
+    let last = layout(alloc, LAST_PIXEL, 2, 2)?;
+    let reads_of_all = reads(alloc, &all)?;
+    for (one, sample) in [(&first, b"\0\x3c"), (&last, b"\x03\x3c")] {
+        let (answer, buffer) = read(alloc, tiles(alloc)?, one, 1)?;
+        answer?;
+        assert_eq!(rt; buffer.as_slice(), sample.as_slice());
+        assert_eq!(rt; reads(alloc, one)?.saturating_add(3), reads_of_all);
+    }
     Ok(())
 }
