@@ -57,7 +57,7 @@ def timed(words):
 
 
 def peak_of(launcher, words):
-    status, peak = map(int, subprocess.run([launcher] + words, check=True, stdout=subprocess.PIPE).stdout.split())
+    status, peak, _ = map(int, subprocess.run([launcher] + words, check=True, stdout=subprocess.PIPE).stdout.split())
     if status != 0:
         sys.exit(f"{words[0]} ended with status {status}")
     return peak / 1024

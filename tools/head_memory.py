@@ -60,7 +60,7 @@ def main():
             with open(source, "wb") as file:
                 file.write(data)
             words = [launcher, PROGRAM, "header", "in=" + source]
-            status, peak = map(int, subprocess.run(words, check=True, stdout=subprocess.PIPE).stdout.split())
+            status, peak, _ = map(int, subprocess.run(words, check=True, stdout=subprocess.PIPE).stdout.split())
             ratio = max(0, 1024 * peak - (4 << 20)) / min(len(data), (1 << 24) + 1)
             print(f"| {name} | {status} | {len(data):,} | {peak / 1024:.1f} | {ratio:.1f} |", flush=True)
             if ratio > 64:

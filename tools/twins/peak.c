@@ -1,5 +1,5 @@
-/* Runs a program and prints its status and its peak memory in KiB: peak PROGRAM WORD... A program that a large process
-   starts would inherit that one's peak. */
+/* Runs a program and prints its status, its peak memory in KiB and its processor time in microseconds: peak PROGRAM WORD...
+   A program that a large process starts would inherit that one's peak. */
 #include <stdio.h>
 #include <sys/resource.h>
 #include <sys/wait.h>
@@ -16,6 +16,7 @@ int main(int argc, char **argv) {
         _exit(127);
     }
     if (child < 0 || wait4(child, &status, 0, &usage) < 0 || !WIFEXITED(status)) return 1;
-    printf("%d %ld\n", WEXITSTATUS(status), usage.ru_maxrss);
+    long seconds = usage.ru_utime.tv_sec + usage.ru_stime.tv_sec, micros = usage.ru_utime.tv_usec + usage.ru_stime.tv_usec;
+    printf("%d %ld %ld\n", WEXITSTATUS(status), usage.ru_maxrss, 1000000 * seconds + micros);
     return 0;
 }

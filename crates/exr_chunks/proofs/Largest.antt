@@ -35,7 +35,7 @@ piece_short from to size n side some within =
     omega (arith, ints, clamps, whole, part, some, within)
 
 -- the first piece is as long as it can be
-first_long : (from to : ℤ) (most : ℕ) → IsSide from to → from ≤ℤ to → 1 ≤ most → span_of from (first_end from to most) ≡ min (span_of from to) most
+pub first_long : (from to : ℤ) (most : ℕ) → IsSide from to → from ≤ℤ to → 1 ≤ most → span_of from (first_end from to most) ≡ min (span_of from to) most
 first_long from to most side ordered some =
     let whole = span_is from to side.ends in
     omega (arith, ints, clamps, whole, some, ordered)
@@ -96,11 +96,11 @@ starts false w c e =
     }
 
 -- a region is no larger than another one, which begins where a window does
-record IsNoLarger (w r f : Box2i) : Type 0 where
-  left : f.x0 ≡ w.x0
-  top : f.y0 ≡ w.y0
-  wide : width_of r ≤ width_of f
-  high : height_of r ≤ height_of f
+pub record IsNoLarger (w r f : Box2i) : Type 0 where
+  pub left : f.x0 ≡ w.x0
+  pub top : f.y0 ≡ w.y0
+  pub wide : width_of r ≤ width_of f
+  pub high : height_of r ≤ height_of f
 
 channel_no_larger : (w r f : Box2i) (c : Channel) → IsNoLarger w r f → IsSampled c → StartsAtSamples w c → channel_bytes_of r c ≤ channel_bytes_of f c
 channel_no_larger w r f c less sampled at =
@@ -123,7 +123,7 @@ channels_no_larger w r f test (c ∷ cs) less sampled well =
     let b = sum_by-cons (channel_bytes_of f) c cs in
     omega (arith, one, others, a, b)
 
-raw_no_larger : (w r f : Box2i) (test : Bool) (cs : List Channel) → IsNoLarger w r f → All IsSampled cs → All (λ c. IsTrue (cond test (is_everywhere c) (is_aligned w c))) cs → raw_size_of cs r ≤ raw_size_of cs f
+pub raw_no_larger : (w r f : Box2i) (test : Bool) (cs : List Channel) → IsNoLarger w r f → All IsSampled cs → All (λ c. IsTrue (cond test (is_everywhere c) (is_aligned w c))) cs → raw_size_of cs r ≤ raw_size_of cs f
 raw_no_larger w r f test cs less sampled well =
     let a = by_channels r cs in
     let b = by_channels f cs in

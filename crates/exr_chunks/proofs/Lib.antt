@@ -10,3 +10,6 @@ pub mod Samples
 pub mod Turning
 pub mod Windows
 pub mod Pixels
+pub mod Repeats
+pub mod Cycles
+pub mod InLines

@@ -1,11 +1,13 @@
 -- What is known of a part and of one of its chunks.
-use Rattle.std.proofs.Common.{◌≡◌, ℕ, zero, suc, ◌+◌, ◌*◌, ◌/◌, ◌%◌, ◌^◌, ◌<◌, ◌≤◌, true, false, refl, sym, ap, subst, ◌∙◌, arith, ℤ, pos, ◌+ℤ◌, nat_abs, ◌≤ℤ◌, List, [], ◌∷◌, Option, Some, None, IfSome, sum_by, All, ◌++◌, length, get_or, take, ap₂}
+use Rattle.std.proofs.Common.{◌≡◌, ℕ, zero, suc, ◌+◌, ◌*◌, ◌/◌, ◌%◌, ◌^◌, ◌<◌, ◌≤◌, true, false, refl, sym, ap, subst, ◌∙◌, arith, ℤ, pos, ◌+ℤ◌, nat_abs, ◌≤ℤ◌, Bool, eqb, cond, ◌||◌, List, [], ◌∷◌, Option, Some, None, sum_by, All, length, get_or, take, ap₂}
+use Rattle.std.specs.Prelude.{IsTrue}
 use Rattle.std.proofs.lemmas.Nat.{row-Below, mod_below}
 use Rattle.std.proofs.Math.Nat.{mod-one, mul_comm}
 use Rattle.std.proofs.lemmas.Int.{ints}
-use Rattle.std.proofs.lemmas.List.{take_more}
-use Rattle.std.proofs.lemmas.List.Elements.{All-same, All-head, All-tail, All-push}
-use Rattle.std.proofs.lemmas.List.Sums.{sum_by-cons, sum_by_push}
+use Rattle.std.proofs.lemmas.Bool.{and_parts, and_from}
+use Rattle.std.proofs.lemmas.Bool.Decides.{nat_tests}
+use Rattle.std.proofs.lemmas.List.Folds.{list_all_at, list_all_more}
+use Rattle.std.proofs.lemmas.List.Sums.{sum_by-cons, sum_by_more, list_all-from_AllPass}
 use Rattle.exr_base.specs.declared.shape.Box2i.{Box2i}
 use Rattle.exr_base.specs.declared.channel.Channel.{Channel}
 use Rattle.exr_base.specs.declared.channel.Kind.{Kind}
@@ -15,14 +17,17 @@ use Rattle.exr_base.specs.declared.method.Method.TheVariants.{No, Rle, Zips, Zip
 use Rattle.exr_base.specs.Method.{lines_of}
 use Rattle.exr_base.specs.Channel.{bytes_of}
 use Rattle.exr_base.specs.Sampling.{multiples_among, span_of}
-use Rattle.exr_base.specs.Shape.{width_of, height_of, channel_bytes_of, raw_size_of, IsSide, IsRegion, IsSampled, IsShape}
+use Rattle.exr_base.specs.Shape.{width_of, height_of, channel_bytes_of, raw_size_of, IsSide, IsRegion}
 use Rattle.exr_chunks.specs.declared.part.Part.{Part}
 use Rattle.exr_chunks.specs.declared.place.Place.TheVariants.{Line, Tile}
-use Rattle.exr_chunks.specs.Heads.{Header, Tiles, AreTiles, IsPicture, is_deep, pieces, columns_of, rows_of, chunk_width, chunk_height, chunk_count_of}
+use Rattle.exr_chunks.specs.Heads.{Header, Tiles, AreTiles, IsPicture, is_tiled, is_deep, is_everywhere, pieces, columns_of, rows_of, chunk_width, chunk_height, chunk_count_of}
+use Rattle.exr_judge.specs.Picture.{is_aligned}
 use Rattle.exr_base.proofs.RawSize.{by_channels}
-use Rattle.exr_chunks.specs.Part.{without_attributes, header_of, IsPixel, IsPart}
+use Rattle.exr_chunks.specs.declared.raw.RawSizes.{RawSizes}
+use Rattle.exr_chunks.specs.Part.{without_attributes, header_of, IsPart}
+use Rattle.exr_chunks.specs.RawBytes.{are_whole, IsPixel, HasRawSizes}
 use Rattle.exr_chunks.specs.Region.{across_of, down_of, start_of, end_of, region_of, chunk_bytes_of, place_among, place_of}
-use Rattle.exr_chunks.specs.Sizes.{IsMeasured}
+use Rattle.exr_chunks.specs.Sizes.{AreSampledWell, IsMeasured}
 use Rattle.exr_chunks.proofs.Measured.{bare_measured}
 use Rattle.exr_chunks.proofs.Pieces.{piece_within, piece_side, span_is}
 
@@ -155,10 +160,6 @@ region_sides p i x0 y0 x1 y1 cut ends = record {
 
 -- ---- raw sizes
 
-pub table_is : (p : Part) (i a b : ℕ) (r : Box2i) → r ≡ region_of (header_of p) i → is_deep p.kind ≡ true → a ≡ width_of r → b ≡ height_of r → 4 * (a * b) ≡ chunk_bytes_of (header_of p) i
-unfolding chunk_bytes_of header_of
-table_is p i a b r is deep ea eb = rw (deep, ea, eb, is) refl
-
 -- a product of a sum
 add_mul : (a b n : ℕ) → (a + b) * n ≡ a * n + b * n
 add_mul a b n = omega arith
@@ -173,12 +174,16 @@ channel_whole : (r : Box2i) (c : Channel) → c.xs ≡ 1 → c.ys ≡ 1 → chan
 channel_whole r c x y =
     rw (x, y, one_each r.x0 (width_of r), one_each r.y0 (height_of r)) (mul_comm (width_of r * height_of r) (bytes_of c.kind))
 
-channels_whole : (r : Box2i) (cs : List Channel) → All (λ c. (c.xs ≡ 1) × (c.ys ≡ 1)) cs → sum_by (channel_bytes_of r) cs ≡ sum_by (λ c. bytes_of c.kind) cs * (width_of r * height_of r)
+is_one : (n : ℕ) → eqb n 1 ≡ true → n ≡ 1
+is_one n e = grind (arith, nat_tests)
+
+channels_whole : (r : Box2i) (cs : List Channel) → are_whole cs ≡ true → sum_by (channel_bytes_of r) cs ≡ sum_by (λ c. bytes_of c.kind) cs * (width_of r * height_of r)
 channels_whole r [] h = omega arith
 channels_whole r (c ∷ cs) h =
-    let here = All-head (λ (c : Channel). (c.xs ≡ 1) × (c.ys ≡ 1)) c cs h in
-    let one = channel_whole r c here.0 here.1 in
-    let rest = channels_whole r cs (All-tail (λ (c : Channel). (c.xs ≡ 1) × (c.ys ≡ 1)) c cs h) in
+    let both = and_parts (is_everywhere c) (are_whole cs) h in
+    let here = and_parts (eqb c.xs 1) (eqb c.ys 1) both.0 in
+    let one = channel_whole r c (is_one c.xs here.0) (is_one c.ys here.1) in
+    let rest = channels_whole r cs both.1 in
     let raw = sum_by-cons (channel_bytes_of r) c cs in
     let bytes = sum_by-cons (λ (c : Channel). bytes_of c.kind) c cs in
     let area : ℕ = width_of r * height_of r in
@@ -191,32 +196,49 @@ kind_small Half = omega arith
 kind_small Float = omega arith
 
 -- one channel more
+everywhere : (c : Channel) → c.xs ≡ 1 → c.ys ≡ 1 → is_everywhere c ≡ true
+everywhere c x y = rw (x, y) refl
+
 pub pixel_more : (cs : List Channel) (i n b : ℕ) (c : Channel) → i < length cs → c ≡ get_or cs i c → IsPixel (take i cs) n → c.xs ≡ 1 → c.ys ≡ 1 → b ≡ bytes_of c.kind → IsPixel (take (i + 1) cs) (n + b)
 pixel_more cs i n b c within read so_far x y bytes =
-    let more : take (i + 1) cs ≡ take i cs ++ c ∷ [] = take_more cs i c within ∙ ap (λ (d : Channel). take i cs ++ d ∷ []) (sym read) in
-    subst (λ ds. IsPixel ds (n + b)) (sym more) (record {
-      whole = All-push (λ (d : Channel). (d.xs ≡ 1) × (d.ys ≡ 1)) (take i cs) c so_far.whole (x, y);
-      sum = ap₂ (λ (k l : ℕ). k + l) so_far.sum bytes ∙ sym (sum_by_push (λ (d : Channel). bytes_of d.kind) (take i cs) c);
-    })
+    let here : is_everywhere (get_or cs i c) ≡ true = subst (λ d. is_everywhere d ≡ true) read (everywhere c x y) in
+    let last : b ≡ bytes_of (get_or cs i c).kind = bytes ∙ ap (λ (d : Channel). bytes_of d.kind) read in
+    record {
+      whole = list_all_more is_everywhere cs i c within ∙ and_from (are_whole (take i cs)) (is_everywhere (get_or cs i c)) so_far.whole here;
+      sum = ap₂ (λ (k l : ℕ). k + l) so_far.sum last ∙ sym (sum_by_more (λ (d : Channel). bytes_of d.kind) cs i c within);
+    }
 
-pub pixels_are : (p : Part) (i n a b : ℕ) (r : Box2i) → r ≡ region_of (header_of p) i → is_deep p.kind ≡ false → IsPixel p.channels.items n → a ≡ width_of r → b ≡ height_of r → n * (a * b) ≡ chunk_bytes_of (header_of p) i
-unfolding chunk_bytes_of header_of
-pixels_are p i n a b r is flat pixel ea eb =
-    let sum = by_channels r p.channels.items ∙ channels_whole r p.channels.items pixel.whole in
-    let whole : n * (a * b) ≡ raw_size_of p.channels.items r = rw (pixel.sum, ea, eb) (sym sum) in
-    rw (flat, sym is) whole
+-- a channel that lacks samples
+pub not_whole : (cs : List Channel) (i : ℕ) (c : Channel) → i < length cs → c ≡ get_or cs i c → is_everywhere c ≡ false → are_whole cs ≡ false
+not_whole cs i c within read here =
+    list_all_at is_everywhere cs i c within (subst (λ d. is_everywhere d ≡ false) read here)
 
-pub flat_is : (p : Part) (i n : ℕ) (cs : List Channel) (r : Box2i) → r ≡ region_of (header_of p) i → is_deep p.kind ≡ false → cs ≡ p.channels.items → n ≡ raw_size_of cs r → n ≡ chunk_bytes_of (header_of p) i
-unfolding chunk_bytes_of header_of
-flat_is p i n cs r is flat same e = rw (flat, e, same, is) refl
+pub pixels_are : (h : Header) (i n : ℕ) → is_deep h.kind ≡ false → IsPixel h.channels n → n * (width_of (region_of h i) * height_of (region_of h i)) ≡ chunk_bytes_of h i
+unfolding chunk_bytes_of
+pixels_are h i n flat pixel =
+    let r = region_of h i in
+    let sum = by_channels r h.channels ∙ channels_whole r h.channels pixel.whole in
+    let whole : n * (width_of r * height_of r) ≡ raw_size_of h.channels r = rw (pixel.sum) (sym sum) in
+    rw flat whole
 
-pub shape_is : (p : Part) (cs : List Channel) (r : Box2i) → IsPart p → cs ≡ p.channels.items → IsRegion r → IsShape cs r
-unfolding header_of
-shape_is p cs r part same region = record {
-  few = rw same part.picture.shape.few;
-  sampled = All-same IsSampled cs p.channels.items same part.picture.shape.sampled;
-  within = region;
-}
+pub table_is : (h : Header) (i : ℕ) → is_deep h.kind ≡ true → 4 * (width_of (region_of h i) * height_of (region_of h i)) ≡ chunk_bytes_of h i
+unfolding chunk_bytes_of
+table_is h i deep = rw deep refl
+
+-- a part in tiles has no channel that lacks samples
+all_whole : (cs : List Channel) → All (λ c. IsTrue (is_everywhere c)) cs → are_whole cs ≡ true
+all_whole cs all = list_all-from_AllPass is_everywhere cs all
+
+pub not_tiled : (h : Header) → AreSampledWell h → are_whole h.channels ≡ false → is_tiled h.kind ≡ false
+not_tiled h well lacking =
+    let P : Bool → Type 0 = λ b. All (λ c. IsTrue (cond (b || is_deep h.kind) (is_everywhere c) (is_aligned h.window c))) h.channels → b ≡ false in
+    elim (is_tiled h.kind) as P [
+      | true ↦ λ all.
+          let whole = all_whole h.channels all in
+          let both : true ≡ false = sym whole ∙ lacking in
+          absurd cc
+      | false ↦ λ all. refl
+    ] well
 
 -- ---- places
 
@@ -239,6 +261,10 @@ pub bare_count : (h : Header) → chunk_count_of (without_attributes h) ≡ chun
 unfolding chunk_count_of
 bare_count h = refl
 
+pub bare_sizes : (sizes : RawSizes) (h : Header) → HasRawSizes sizes h → HasRawSizes sizes (without_attributes h)
+unfolding chunk_count_of region_of chunk_bytes_of
+bare_sizes sizes h has = record { some = has.some; exact = has.exact }
+
 pub across_is : (h : Header) (w : Box2i) (size whole a : ℕ) → w ≡ h.window → size ≡ chunk_width h → whole ≡ width_of w → a ≡ pieces size whole → a ≡ across_of h
 across_is h w size whole a ew es el ea = ea ∙ rw (es, el, ew) refl
 
@@ -254,13 +280,13 @@ unfolding header_of
 header_is h p a b c d e f = rw (a, b, c, d, e, f) refl
 
 pub part_is : (h : Header) (p : Part) → IsPicture h → IsMeasured h → header_of p ≡ without_attributes h → p.columns ≡ chunk_width h → p.rows ≡ chunk_height h → p.across ≡ across_of h → p.down ≡ down_of h → p.count ≡ chunk_count_of h
-    → IfSome p.pixel (IsPixel p.channels.items) → p.first + chunk_count_of h ≤ 2 ^ 20 → IsPart p
-part_is h p picture measured e columns rows across down count pixel few = record {
+    → HasRawSizes p.sizes h → p.first + chunk_count_of h ≤ 2 ^ 20 → IsPart p
+part_is h p picture measured e columns rows across down count sizes few = record {
   picture = subst IsPicture (sym e) (bare_picture h picture);
   measured = subst IsMeasured (sym e) (bare_measured h measured);
   columns = columns ∙ sym (ap chunk_width e);
   rows = rows ∙ sym (ap chunk_height e);
-  pixel = pixel;
+  sizes = subst (HasRawSizes p.sizes) (sym e) (bare_sizes p.sizes h sizes);
   across = across ∙ sym (ap across_of e);
   down = down ∙ sym (ap down_of e);
   count = count ∙ sym (bare_count h) ∙ sym (ap chunk_count_of e);

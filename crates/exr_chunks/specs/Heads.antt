@@ -5,6 +5,6 @@ pub use Rattle.exr_judge.specs.declared.kind.PartKind.TheVariants.{Scan, Tiled, 
 pub use Rattle.exr_judge.specs.declared.kind.LineOrder.{LineOrder}
 pub use Rattle.exr_judge.specs.declared.kind.LineOrder.TheVariants.{Increasing, Decreasing, Random}
 pub use Rattle.exr_judge.specs.declared.kind.Tiles.{Tiles}
-pub use Rattle.exr_judge.specs.Kind.{is_deep}
-pub use Rattle.exr_judge.specs.Picture.{pieces, columns_of, rows_of, chunk_width, chunk_height, is_sampled_well, AreTiles, IsPicture}
+pub use Rattle.exr_judge.specs.Kind.{is_tiled, is_deep}
+pub use Rattle.exr_judge.specs.Picture.{pieces, columns_of, rows_of, chunk_width, chunk_height, is_everywhere, is_sampled_well, AreTiles, IsPicture}
 unfoldable pub use Rattle.exr_judge.specs.Picture.{chunk_count_of, raw_chunk_of}

@@ -1,5 +1,6 @@
 pub mod Heads
 pub mod Part
+pub mod RawBytes
 pub mod Region
 pub mod Sizes
 pub mod Table

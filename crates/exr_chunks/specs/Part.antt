@@ -1,9 +1,8 @@
 -- A part as a geometry keeps it: what its header says of where its chunks lie, and the numbers that follow from it.
-use Rattle.std.specs.Prelude.{◌≡◌, ◌+◌, ◌≤◌, ◌<◌, ◌^◌, ℕ, List, [], length, get_or, map, All, sum_by, IfSome}
-use Rattle.exr_base.specs.declared.channel.Channel.{Channel}
-use Rattle.exr_base.specs.Channel.{bytes_of}
+use Rattle.std.specs.Prelude.{◌≡◌, ◌+◌, ◌≤◌, ◌<◌, ◌^◌, ℕ, List, [], length, get_or, map, All, sum_by}
 use Rattle.exr_chunks.specs.declared.part.Part.{Part}
 use Rattle.exr_chunks.specs.Heads.{Header, chunk_width, chunk_height, chunk_count_of, IsPicture}
+use Rattle.exr_chunks.specs.RawBytes.{HasRawSizes}
 use Rattle.exr_chunks.specs.Region.{across_of, down_of}
 use Rattle.exr_chunks.specs.Sizes.{IsMeasured}
 use Rattle.exr_chunks.specs.Table.{chunks_before}
@@ -23,18 +22,13 @@ header_of p = record {
   tiles = p.tiles;
 }
 
--- each channel has a sample at each pixel, and so many bytes are those of a pixel
-pub record IsPixel (channels : List Channel) (bytes : ℕ) : Type 0 where
-  pub whole : All (λ c. (c.xs ≡ 1) × (c.ys ≡ 1)) channels
-  pub sum : bytes ≡ sum_by (λ c. bytes_of c.kind) channels
-
 -- the numbers of a part are those of its header
 pub record IsPart (p : Part) : Type 0 where
   pub picture : IsPicture (header_of p)
   pub measured : IsMeasured (header_of p)
   pub columns : p.columns ≡ chunk_width (header_of p)
   pub rows : p.rows ≡ chunk_height (header_of p)
-  pub pixel : IfSome p.pixel (IsPixel p.channels.items)
+  pub sizes : HasRawSizes p.sizes (header_of p)
   pub across : p.across ≡ across_of (header_of p)
   pub down : p.down ≡ down_of (header_of p)
   pub count : p.count ≡ chunk_count_of (header_of p)

@@ -1,15 +1,16 @@
 -- What judging says of the raw sizes of a header's chunks.
-use Rattle.std.specs.Prelude.{◌≡◌, ◌≤◌, ◌<◌, ◌^◌, ◌↔◌, ℕ, IsTrue, All}
-use Rattle.exr_chunks.specs.Heads.{Header, IsPicture, is_sampled_well, raw_chunk_of, chunk_count_of}
+use Rattle.std.specs.Prelude.{◌≡◌, ◌≤◌, ◌<◌, ◌^◌, ◌↔◌, ℕ, IsTrue, All, None, false}
+use Rattle.exr_chunks.specs.Heads.{Header, IsPicture, is_tiled, is_sampled_well, raw_chunk_of, chunk_count_of}
 use Rattle.exr_chunks.specs.Region.{chunk_bytes_of}
 
 -- the samplings of all channels fit the kind of part and the data window
 abbrev pub AreSampledWell : Header → Type 0
 AreSampledWell h = All (λ c. IsTrue (is_sampled_well h c)) h.channels
 
--- the samplings fit, and the first chunk has at most 2^26 raw bytes
+-- the samplings fit, the first chunk has at most 2^26 raw bytes, and a part in lines has no tiles
 pub record IsMeasured (h : Header) : Type 0 where
   pub sampled : AreSampledWell h
+  pub lines : is_tiled h.kind ≡ false → h.tiles ≡ None
   pub small : raw_chunk_of h ≤ 2 ^ 26
 
 -- what is judged of a header is the raw size of its first chunk

@@ -21,8 +21,7 @@ use std::marker::Model;
 ///
 /// Parts, indexes and turns count from 0. An index is a chunk's place in its part's table of offsets. But for `new` and
 /// `chunks_of` the calls take no memory, and each takes the same time whatever the head, but for `at_turn`, which
-/// searches the parts by halves, and `chunks_of`, which goes over its answer. (`raw_size` goes over the channels of a part in
-/// lines where one of them lacks a sample at some pixel.)
+/// searches the parts by halves, and `chunks_of`, which goes over its answer.
 #[derive(Drop, Debug)]
 pub struct Geometry {
     parts: Vec<Part>,

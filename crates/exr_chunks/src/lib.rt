@@ -3,10 +3,12 @@
 #![tactic(auto)]
 
 mod geometry;
+mod groups;
 mod index;
 mod laws;
 mod part;
 mod place;
+mod raw;
 mod region;
 mod sides;
 #[cfg(test)]

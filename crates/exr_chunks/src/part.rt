@@ -1,11 +1,12 @@
 //! A part as a geometry keeps it.
 
-ghost use Rattle.std.specs.Prelude.{◌≡◌, ◌≤◌, ◌+◌, ◌^◌, length, IfOk, IfSome};
+ghost use Rattle.std.specs.Prelude.{◌≡◌, ◌≤◌, ◌+◌, ◌^◌, IfOk};
 ghost use Rattle.exr_base.specs.Shape.{IsSide, IsSampled};
 ghost use Rattle.exr_chunks.specs.Heads.{chunk_width, chunk_height, chunk_count_of, IsPicture};
-ghost use Rattle.exr_chunks.specs.Part.{without_attributes, header_of, IsPixel, IsPart};
+ghost use Rattle.exr_chunks.specs.Part.{without_attributes, header_of, IsPart};
 ghost use Rattle.exr_chunks.specs.Sizes.{IsMeasured};
 
+use crate::raw::RawSizes;
 use crate::sides::{pieces, span};
 use exr_base::{Box2i, Channel, Method, NoMemory};
 use exr_header::{Header, LineOrder, PartKind, Tiles};
@@ -23,8 +24,7 @@ pub(crate) struct Part {
     /// The columns and the lines of a chunk that is not cut.
     pub columns: u32,
     pub rows: u32,
-    /// The bytes of a pixel, where each channel has a sample at each.
-    pub pixel: Option<u64>,
+    pub sizes: RawSizes,
     /// How many chunks stand side by side, how many such rows there are, and how many chunks that makes.
     pub across: u32,
     pub down: u32,
@@ -48,21 +48,6 @@ fn copied(alloc: Global, channels: &[Channel]) -> Result<Vec<Channel>, NoMemory>
         })?;
     }
     Ok(copies)
-}
-
-/// The bytes of a pixel, where each channel has a sample at each.
-fn pixel(channels: &[Channel]) -> Option<u64>
-    requires { length channels.now ≤ 1024 }
-    ensures { IfSome result (IsPixel channels.now) }
-{
-    let mut bytes = 0;
-    for channel in channels {
-        if channel.xs != 1 || channel.ys != 1 {
-            return None;
-        }
-        bytes += channel.kind.bytes() as u64;
-    }
-    Some(bytes)
 }
 
 /// The columns of a chunk that is not cut.
@@ -106,6 +91,7 @@ impl Part {
         let rows = rows(header);
         let across = pieces(columns, span(window.x0, window.x1));
         let down = pieces(rows, span(window.y0, window.y1));
+        let count = across * down;
         Ok(Part {
             kind: header.kind(),
             channels: copied(alloc, header.channels())?,
@@ -115,10 +101,10 @@ impl Part {
             tiles: header.tiles(),
             columns,
             rows,
-            pixel: pixel(header.channels()),
+            sizes: RawSizes::new(alloc, header, rows, count)?,
             across,
             down,
-            count: across * down,
+            count,
             first,
         })
     }

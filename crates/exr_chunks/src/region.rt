@@ -8,8 +8,9 @@ ghost use Rattle.exr_chunks.specs.Region.{region_of, chunk_bytes_of, place_of};
 
 use crate::part::Part;
 use crate::place::Place;
+use crate::raw::RawSizes;
 use crate::sides::{end, span, start};
-use exr_base::{Box2i, Shape};
+use exr_base::Box2i;
 
 impl Part {
     /// The region of a chunk.
@@ -31,28 +32,27 @@ impl Part {
         }
     }
 
-    /// The raw bytes of a chunk, of a deep one those of its count table. Only where some channel of a part in lines lacks a
-    /// sample at some pixel does that take a look at each channel.
+    /// The raw bytes of a chunk, of a deep one those of its count table.
     pub fn raw_size(&self, index: u32) -> u64
         requires part { IsPart self.now }
         requires within { index < self.now.count }
         ensures exact { result ≡ chunk_bytes_of (header_of self.now) index }
         ensures small { result ≤ 2 ^ 26 }
     {
-        let region = self.region(index);
-        let columns = u64::from(span(region.x0, region.x1));
-        let rows = u64::from(span(region.y0, region.y1));
-        if self.kind.is_deep() {
-            return 4 * (columns * rows);
+        match &self.sizes {
+            RawSizes::Pixels { bytes } => {
+                let region = self.region(index);
+                let columns = u64::from(span(region.x0, region.x1));
+                let rows = u64::from(span(region.y0, region.y1));
+                *bytes * (columns * rows)
+            }
+            RawSizes::Lines { cycle, last } => {
+                if index + 1 == self.count {
+                    return u64::from(*last);
+                }
+                u64::from(cycle[index as usize % cycle.len()])
+            }
         }
-        if let Some(bytes) = self.pixel {
-            return bytes * (columns * rows);
-        }
-        let shape = Shape {
-            channels: self.channels.as_slice(),
-            region,
-        };
-        shape.raw_size()
     }
 
     /// The place of a chunk.

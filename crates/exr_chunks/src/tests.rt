@@ -1,4 +1,4 @@
-//! Worked values: tiles of two by two, falling blocks of 32 lines, and two parts.
+//! Worked values: tiles of two by two, falling blocks of 32 lines, two parts, and channels of unlike samplings.
 
 use super::*;
 use exr_base::Box2i;
@@ -24,18 +24,39 @@ const RISING: u8 = 0;
 
 const FALLING: u8 = 1;
 
+/// The attribute of the HALF channels A, B and C, or the first of them, with these samplings.
+fn channels(alloc: Global, samplings: &[(u8, u8)]) -> Result<Vec<u8>, Fail> {
+    let mut list = Vec::new(alloc);
+    for (name, (xs, ys)) in b"ABC".iter().zip(samplings) {
+        list.extend_from_slice(&[*name, 0, 1, 0, 0, 0, 0, 0, 0, 0, *xs, 0, 0, 0, *ys, 0, 0, 0])?;
+    }
+    list.push(0)?;
+    let mut bytes = b"channels\0chlist\0".to_vec(alloc)?;
+    bytes.extend_from_slice(&list.len().to_le_bytes()[..4])?;
+    bytes.extend_from_slice(&list)?;
+    Ok(bytes)
+}
+
 /// The attributes that each part has, of one HALF channel.
 fn attributes(alloc: Global, picture: Picture) -> Result<Vec<u8>, Fail> {
-    let Picture {
-        right,
-        bottom,
-        method,
-        order,
-    } = picture;
-    let window = [0, 0, 0, 0, 0, 0, 0, 0, right, 0, 0, 0, bottom, 0, 0, 0];
-    let mut bytes = b"channels\0chlist\0\x13\0\0\0Y\0\x01\0\0\0\0\0\0\0\x01\0\0\0\x01\0\0\0\0\
-          compression\0compression\0\x01\0\0\0"
-        .to_vec(alloc)?;
+    let window = [0, 0, i32::from(picture.right), i32::from(picture.bottom)];
+    attributes_of(alloc, &[(1, 1)], window, picture.method, picture.order)
+}
+
+/// The attributes of a part of HALF channels with these samplings in a data window.
+fn attributes_of(
+    alloc: Global,
+    samplings: &[(u8, u8)],
+    corners: [i32; 4],
+    method: u8,
+    order: u8,
+) -> Result<Vec<u8>, Fail> {
+    let mut window = Vec::new(alloc);
+    for corner in corners {
+        window.extend_from_slice(&corner.to_le_bytes())?;
+    }
+    let mut bytes = channels(alloc, samplings)?;
+    bytes.extend_from_slice(b"compression\0compression\0\x01\0\0\0")?;
     bytes.push(method)?;
     bytes.extend_from_slice(b"dataWindow\0box2i\0\x10\0\0\0")?;
     bytes.extend_from_slice(&window)?;
@@ -355,6 +376,109 @@ fn chunks_of_windows(rt: HostRuntime) -> Result<(), Fail> {
     for (window, chunks) in blocks {
         let found = met(alloc, &geometry, window)?.ok_or("a part")?;
         assert_eq!(rt; found.as_slice(), chunks, "{window:?}");
+    }
+    Ok(())
+}
+
+/// The raw sizes of the chunks of a part in lines: four columns from these lines on, of HALF channels with these samplings.
+fn sizes_of(
+    alloc: Global,
+    method: u8,
+    (top, bottom): (i32, i32),
+    samplings: &[(u8, u8)],
+) -> Result<Vec<u64>, Fail> {
+    let mut bytes = b"v/1\x01\x02\0\0\0".to_vec(alloc)?;
+    bytes.extend_from_slice(&attributes_of(
+        alloc,
+        samplings,
+        [0, top, 3, bottom],
+        method,
+        RISING,
+    )?)?;
+    bytes.push(0)?;
+    let geometry = read(alloc, &bytes)?;
+    let mut sizes = Vec::new(alloc);
+    if geometry.parts() == 0 {
+        return Ok(sizes);
+    }
+    for index in 0..geometry.chunk_count(0) {
+        sizes.push(geometry.raw_size(0, index))?;
+    }
+    Ok(sizes)
+}
+
+/// The samplings of a part's channels, and the raw sizes of its chunks.
+#[derive(Clone, Copy)]
+struct Sampled {
+    method: u8,
+    lines: (i32, i32),
+    samplings: &'static [(u8, u8)],
+    sizes: &'static [u64],
+}
+
+/// Of each: how its sizes come again.
+const SAMPLED: [Sampled; 7] = [
+    // every second line has the samples of both
+    Sampled {
+        method: NO,
+        lines: (0, 3),
+        samplings: &[(1, 1), (2, 2)],
+        sizes: &[12, 8, 12, 8],
+    },
+    // after six lines, from a line below 0 on
+    Sampled {
+        method: NO,
+        lines: (-6, 5),
+        samplings: &[(1, 1), (2, 2), (4, 3)],
+        sizes: &[14, 8, 12, 10, 12, 8, 14, 8, 12, 10, 12, 8],
+    },
+    // lines without samples, which come but once
+    Sampled {
+        method: NO,
+        lines: (-5, -1),
+        samplings: &[(2, 5)],
+        sizes: &[4, 0, 0, 0, 0],
+    },
+    // after three blocks of 32 lines, and a last one of four
+    Sampled {
+        method: PIZ,
+        lines: (0, 131),
+        samplings: &[(1, 1), (2, 2), (4, 3)],
+        sizes: &[342, 342, 340, 342, 42],
+    },
+    // each block is like the first, but for the last
+    Sampled {
+        method: PIZ,
+        lines: (-64, 7),
+        samplings: &[(1, 2), (1, 4)],
+        sizes: &[192, 192, 48],
+    },
+    // two channels of one sampling, and one block
+    Sampled {
+        method: PIZ,
+        lines: (30, 35),
+        samplings: &[(2, 3), (1, 3), (1, 2)],
+        sizes: &[48],
+    },
+    // samples at some columns of every line
+    Sampled {
+        method: NO,
+        lines: (7, 9),
+        samplings: &[(2, 1), (4, 1)],
+        sizes: &[6, 6, 6],
+    },
+];
+
+#[test]
+fn raw_sizes_by_samplings(rt: HostRuntime) -> Result<(), Fail> {
+    for Sampled {
+        method,
+        lines,
+        samplings,
+        sizes,
+    } in SAMPLED {
+        let found = sizes_of(rt.alloc(), method, lines, samplings)?;
+        assert_eq!(rt; found.as_slice(), sizes, "{samplings:?}");
     }
     Ok(())
 }

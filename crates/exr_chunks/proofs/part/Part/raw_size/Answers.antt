@@ -1,71 +1,97 @@
-use Rattle.std.proofs.Common.{◌≡◌, ℕ, ◌*◌, ◌^◌, ◌<◌, ◌≤◌, rules, sym, subst, ◌∙◌, false, Option, Some, IfSome, arith}
+-- What is read is the size of the chunk.
+use Rattle.std.proofs.Common.{Vec, Global, vec_len, ◌≡◌, ◌≢◌, ◌%◌, ◌+◌, ◌*◌, ◌^◌, ◌<◌, ◌≤◌, ℕ, rules, eqb, true, false, cond, refl, sym, ap, ap₂, subst, ◌∙◌, arith, slice_index, get_or, length}
 use Rattle.std.specs.Int.{w32}
+use Rattle.std.proofs.lemmas.Nat.{mod_below}
+use Rattle.std.proofs.lemmas.Bool.Decides.{nat_tests}
+use Rattle.std.proofs.lemmas.List.{get_or_read_under}
 use Rattle.std.proofs.lemmas.Int.{to_z-of_z}
 use mir.Val.{SFits}
-use Rattle.exr_base.specs.Shape.{width_of, height_of}
 use Rattle.exr_base.specs.declared.shape.Box2i.{Box2i}
+use Rattle.exr_base.specs.Shape.{width_of, height_of}
 use Rattle.exr_chunks.specs.declared.part.Part.{Part}
-use Rattle.exr_chunks.specs.Part.{header_of, IsPixel, IsPart}
-use Rattle.exr_chunks.specs.Heads.{is_deep}
+use Rattle.exr_chunks.specs.declared.raw.RawSizes.{RawSizes}
+use Rattle.exr_chunks.specs.declared.raw.RawSizes.TheVariants.{Pixels, Lines}
+use Rattle.exr_chunks.specs.Part.{header_of, IsPart}
+use Rattle.exr_chunks.specs.RawBytes.{kept_size, HasCycle}
 use Rattle.exr_chunks.specs.Region.{region_of, chunk_bytes_of}
 use Rattle.exr_chunks.proofs.Largest.{chunk_small}
-use Rattle.exr_chunks.proofs.Parts.{table_is, pixels_are, flat_is, shape_is}
 use Rattle.exr_chunks.proofs.part.Part.raw_size.Goals as goal
 
 at_most : (p : Part) (i n : ℕ) → IsPart p → i < p.count → n ≡ chunk_bytes_of (header_of p) i → n ≤ 2 ^ 26
 at_most p i n part within e = subst (λ k. k ≤ 2 ^ 26) (sym e) (chunk_small p i part within)
 
-pub returns-then-is_deep : goal.returns-then-is_deep
-returns-then-is_deep c =
-    let r = c.region-region.result in
-    let f0 : SFits w32 r.x0 = search rules in
-    let f1 : SFits w32 r.x1 = search rules in
-    let g0 : SFits w32 r.y0 = search rules in
-    let g1 : SFits w32 r.y1 = search rules in
-    let a : c.span.result ≡ width_of r = simp to_z-of_z at c.span.ensures.exact in
-    let b : c.span-2.result ≡ height_of r = simp to_z-of_z at c.span-2.ensures.exact in
+-- what is read of the sizes that a part keeps
+read : (p : Part) (s : RawSizes) (i : ℕ) → IsPart p → p.sizes ≡ s → i < p.count → kept_size s p.count (region_of (header_of p) i) i ≡ chunk_bytes_of (header_of p) i
+read p s i part is within =
+    ap₂ (λ (t : RawSizes) (n : ℕ). kept_size t n (region_of (header_of p) i) i) (sym is) part.count ∙ part.sizes.exact i (subst (λ n. i < n) part.count within)
+
+cycle_read : (p : Part) (s : RawSizes) → IsPart p → p.sizes ≡ s → HasCycle s p.count
+cycle_read p s part is =
+    subst (λ (t : RawSizes). HasCycle t p.count) is (subst (HasCycle p.sizes) (sym part.count) part.sizes.some)
+
+-- so many bytes for each pixel
+pixels_read : (p : Part) (s : RawSizes) (i n a b : ℕ) (r : Box2i) → IsPart p → p.sizes ≡ s → s ≡ Pixels n → i < p.count → r ≡ region_of (header_of p) i → a ≡ width_of r → b ≡ height_of r → n * (a * b) ≡ chunk_bytes_of (header_of p) i
+pixels_read p s i n a b r part is kind within region wide high =
+    ap₂ (λ (x y : ℕ). n * (x * y)) wide high ∙ ap (λ (q : Box2i). n * (width_of q * height_of q)) region ∙ read p (Pixels n) i part (is ∙ kind) within
+
+pub overflow_mul-result-in-Pixels : goal.overflow_mul-result-in-Pixels
+overflow_mul-result-in-Pixels c =
     let p = c.args.self.now in
-    let exact = table_is p c.args.index c.from-columns.result c.from-rows.result r c.region-region.ensures.exact (sym c.is_deep.ensures ∙ c.if-is_deep.true) (c.from-columns.ensures ∙ a) (c.from-rows.ensures ∙ b) in
-    record { exact = exact; small = at_most p c.args.index (4 * (c.from-columns.result * c.from-rows.result)) c.requires.part c.requires.within exact }
-
--- a pixel's bytes times the pixels of a region
-pixels : (p : Part) (i n : ℕ) (a b : ℕ) (r : Box2i) → IsPart p → r ≡ region_of (header_of p) i → is_deep p.kind ≡ false → p.pixel ≡ Some n → a ≡ width_of r → b ≡ height_of r → n * (a * b) ≡ chunk_bytes_of (header_of p) i
-pixels p i n a b r part is flat some ea eb =
-    pixels_are p i n a b r is flat (subst (λ (o : Option ℕ). IfSome o (IsPixel p.channels.items)) some part.pixel) ea eb
-
-pub returns-in-Some-clause-exact : goal.returns-in-Some-clause-exact
-returns-in-Some-clause-exact c =
     let r = c.region-region.result in
     let f0 : SFits w32 r.x0 = search rules in
     let f1 : SFits w32 r.x1 = search rules in
     let g0 : SFits w32 r.y0 = search rules in
     let g1 : SFits w32 r.y1 = search rules in
     let a : c.span.result ≡ width_of r = simp to_z-of_z at c.span.ensures.exact in
-    let b : c.span-2.result ≡ height_of r = simp to_z-of_z at c.span-2.ensures.exact in
-    pixels c.args.self.now c.args.index c.in-Some.bytes c.from-columns.result c.from-rows.result r c.requires.part c.region-region.ensures.exact (sym c.is_deep.ensures ∙ c.if-is_deep.false) c.in-Some.is (c.from-columns.ensures ∙ a) (c.from-rows.ensures ∙ b)
-
-pub returns-in-Some-clause-small : goal.returns-in-Some-clause-small
-returns-in-Some-clause-small c =
-    at_most c.args.self.now c.args.index (c.in-Some.bytes * (c.from-columns.result * c.from-rows.result)) c.requires.part c.requires.within (returns-in-Some-clause-exact c)
-
-pub overflow_mul-result-in-Some-2 : goal.overflow_mul-result-in-Some-2
-overflow_mul-result-in-Some-2 c =
-    let r = c.region-region.result in
-    let f0 : SFits w32 r.x0 = search rules in
-    let f1 : SFits w32 r.x1 = search rules in
-    let g0 : SFits w32 r.y0 = search rules in
-    let g1 : SFits w32 r.y1 = search rules in
-    let a : c.span.result ≡ width_of r = simp to_z-of_z at c.span.ensures.exact in
-    let b : c.span-2.result ≡ height_of r = simp to_z-of_z at c.span-2.ensures.exact in
-    let exact = pixels c.args.self.now c.args.index c.in-Some.bytes c.from-columns.result c.from-rows.result r c.requires.part c.region-region.ensures.exact (sym c.is_deep.ensures ∙ c.if-is_deep.false) c.in-Some.is (c.from-columns.ensures ∙ a) (c.from-rows.ensures ∙ b) in
-    let small = at_most c.args.self.now c.args.index (c.in-Some.bytes * (c.from-columns.result * c.from-rows.result)) c.requires.part c.requires.within exact in
+    let b : c.span-in-Pixels.result ≡ height_of r = simp to_z-of_z at c.span-in-Pixels.ensures.exact in
+    let exact = pixels_read p p.sizes c.args.index c.in-Pixels.bytes c.from-columns.result c.from-rows.result r c.requires.part refl c.in-Pixels.is c.requires.within c.region-region.ensures.exact (c.from-columns.ensures ∙ a) (c.from-rows.ensures ∙ b) in
+    let small = at_most p c.args.index (c.in-Pixels.bytes * (c.from-columns.result * c.from-rows.result)) c.requires.part c.requires.within exact in
     omega (arith, small)
 
-pub raw_size-requires : goal.raw_size-requires
-raw_size-requires c = shape_is c.args.self.now c.as_slice.result.now c.region-region.result c.requires.part c.as_slice.ensures.value c.region-region.ensures.region
-
-pub returns : goal.returns
-returns c =
+pub returns-in-Pixels-clause-exact : goal.returns-in-Pixels-clause-exact
+returns-in-Pixels-clause-exact c =
     let p = c.args.self.now in
-    let exact = flat_is p c.args.index c.raw_size.result c.as_slice.result.now c.region-region.result c.region-region.ensures.exact (sym c.is_deep.ensures ∙ c.if-is_deep.false) c.as_slice.ensures.value c.raw_size.ensures in
-    record { exact = exact; small = at_most p c.args.index c.raw_size.result c.requires.part c.requires.within exact }
+    let r = c.region-region.result in
+    let f0 : SFits w32 r.x0 = search rules in
+    let f1 : SFits w32 r.x1 = search rules in
+    let g0 : SFits w32 r.y0 = search rules in
+    let g1 : SFits w32 r.y1 = search rules in
+    let a : c.span.result ≡ width_of r = simp to_z-of_z at c.span.ensures.exact in
+    let b : c.span-in-Pixels.result ≡ height_of r = simp to_z-of_z at c.span-in-Pixels.ensures.exact in
+    pixels_read p p.sizes c.args.index c.in-Pixels.bytes c.from-columns.result c.from-rows.result r c.requires.part refl c.in-Pixels.is c.requires.within c.region-region.ensures.exact (c.from-columns.ensures ∙ a) (c.from-rows.ensures ∙ b)
+
+pub returns-in-Pixels-clause-small : goal.returns-in-Pixels-clause-small
+returns-in-Pixels-clause-small c =
+    at_most c.args.self.now c.args.index (c.in-Pixels.bytes * (c.from-columns.result * c.from-rows.result)) c.requires.part c.requires.within (returns-in-Pixels-clause-exact c)
+
+-- the place in the cycle, and the last chunk's own size
+before_last : (p : Part) (i n last : ℕ) (cycle : Vec ℕ Global) → IsPart p → p.sizes ≡ Lines cycle last → i < p.count → i + 1 ≢ p.count → n ≡ slice_index cycle.items (i % length cycle.items) → n ≡ chunk_bytes_of (header_of p) i
+before_last p i n last cycle part is within other at =
+    let test : eqb (i + 1) p.count ≡ false = grind (arith, nat_tests) in
+    at ∙ sym (ap (λ b. cond b last (slice_index cycle.items (i % length cycle.items))) test) ∙ read p (Lines cycle last) i part is within
+
+at_last : (p : Part) (i last : ℕ) (cycle : Vec ℕ Global) → IsPart p → p.sizes ≡ Lines cycle last → i < p.count → i + 1 ≡ p.count → last ≡ chunk_bytes_of (header_of p) i
+at_last p i last cycle part is within here =
+    let test : eqb (i + 1) p.count ≡ true = grind (arith, nat_tests) in
+    sym (ap (λ b. cond b last (slice_index cycle.items (i % length cycle.items))) test) ∙ read p (Lines cycle last) i part is within
+
+pub returns-then-index-self-clause-small : goal.returns-then-index-self-clause-small
+returns-then-index-self-clause-small c =
+    let p = c.args.self.now in
+    at_most p c.args.index c.from.result c.requires.part c.requires.within (c.from.ensures ∙ at_last p c.args.index c.in-Lines.last c.in-Lines.cycle c.requires.part c.in-Lines.is c.requires.within c.if-index-self.true)
+
+pub returns-else-index-self-clause-exact : goal.returns-else-index-self-clause-exact
+returns-else-index-self-clause-exact c =
+    let p = c.args.self.now in
+    let cycle = c.in-Lines.cycle in
+    let within = c.requires.within in
+    let other = c.if-index-self.false in
+    let some : 0 < length cycle.items = cycle_read p (Lines cycle c.in-Lines.last) c.requires.part c.in-Lines.is (omega (arith, within, other)) in
+    let long : vec_len cycle ≡ length cycle.items = omega (arith, cycle.ok.0) in
+    let place : c.args.index % c.len.result ≡ c.args.index % length cycle.items = ap (λ n. c.args.index % n) (c.len.ensures ∙ long) in
+    let here : c.index.result.now ≡ slice_index cycle.items (c.args.index % length cycle.items) = get_or_read_under cycle.items (c.args.index % length cycle.items) (length cycle.items) c.index.result.now 0 (c.index.ensures ∙ ap (λ k. get_or cycle.items k c.index.result.now) place) (mod_below c.args.index (length cycle.items) some) refl in
+    before_last p c.args.index c.from-in-Lines.result c.in-Lines.last cycle c.requires.part c.in-Lines.is within other (c.from-in-Lines.ensures ∙ here)
+
+pub returns-else-index-self-clause-small : goal.returns-else-index-self-clause-small
+returns-else-index-self-clause-small c =
+    at_most c.args.self.now c.args.index c.from-in-Lines.result c.requires.part c.requires.within (returns-else-index-self-clause-exact c)

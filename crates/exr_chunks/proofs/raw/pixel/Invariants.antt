@@ -1,6 +1,6 @@
 use Rattle.std.proofs.Common.{◌*◌, ◌≤◌, take}
-use Rattle.exr_chunks.specs.Part.{IsPixel}
-use Rattle.exr_chunks.proofs.part.pixel.Given as goal
+use Rattle.exr_chunks.specs.RawBytes.{IsPixel}
+use Rattle.exr_chunks.proofs.raw.pixel.Given as goal
 
 -- the channels so far have a sample at each pixel, and these are their bytes
 abbrev pub invariant-loop-channel : goal.invariant-loop-channel

@@ -1,6 +1,6 @@
 use Rattle.std.proofs.Common.{arith}
 use Rattle.exr_chunks.proofs.Parts.{kind_small, pixel_more}
-use Rattle.exr_chunks.proofs.part.pixel.Goals as goal
+use Rattle.exr_chunks.proofs.raw.pixel.Goals as goal
 
 pub loop-channel-preserved : goal.loop-channel-preserved
 loop-channel-preserved c =

@@ -1,0 +1,161 @@
+//! The raw sizes of a part's chunks, in a form in which each is looked up in the same time, however many channels and
+//! samplings the part has.
+//!
+//! In a part in lines where channels lack samples, the bytes of a chunk depend on which samplings divide the numbers of
+//! its lines. The data window begins at a multiple of each, so the sizes come again after as many chunks as have a whole
+//! number of lines of each sampling (own).
+
+ghost use Rattle.std.specs.Prelude.{◌≡◌, ◌≤◌, ◌<◌, ◌+◌, ◌*◌, ◌%◌, ◌^◌, false, ℕ, All, IfOk, MatchOption, length, slice_index};
+ghost use Rattle.exr_chunks.specs.Heads.{IsPicture, chunk_height, chunk_count_of};
+ghost use Rattle.exr_chunks.specs.RawBytes.{are_whole, IsPixel, HasRawSizes, IsInLines, group_bytes, groups_bytes, IsPeriod, IsCycle};
+ghost use Rattle.exr_chunks.specs.Sizes.{IsMeasured};
+
+use crate::groups::{Group, groups_of};
+use crate::sides::start;
+use exr_base::{Box2i, Channel, NoMemory, Shape};
+use exr_header::Header;
+use std::alloc::Global;
+
+/// What the raw size of a chunk is read from.
+#[derive(Drop, Debug)]
+pub(crate) enum RawSizes {
+    /// Each pixel has as many bytes: of samples, or of its number in the count table of a deep chunk.
+    Pixels { bytes: u64 },
+    /// The sizes of the first chunks, which come again and again, and that of the last chunk, which may have fewer lines.
+    Lines { cycle: Vec<u32>, last: u32 },
+}
+
+/// The bytes of a pixel; None exactly where some channel lacks a sample at some.
+fn pixel(channels: &[Channel]) -> Option<u64>
+    requires { length channels.now ≤ 1024 }
+    ensures { MatchOption result (are_whole channels.now ≡ false) (IsPixel channels.now) }
+{
+    let mut bytes = 0;
+    for channel in channels {
+        if channel.xs != 1 || channel.ys != 1 {
+            return None;
+        }
+        bytes += channel.kind.bytes() as u64;
+    }
+    Some(bytes)
+}
+
+/// The least multiple of `step` chunks after which the samples of a sampling come again, or else `most`.
+fn multiple(step: u32, ys: u32, rows: u32, most: u32) -> u32
+    requires some { 1 ≤ step }
+    requires within { step ≤ most }
+    requires sampled { 1 ≤ ys }
+    requires small { most * rows ≤ 2 ^ 30 }
+    requires few { most ≤ 2 ^ 30 }
+    ensures some { 1 ≤ result }
+    ensures within { result ≤ most }
+    ensures whole { result < most → result % step ≡ 0 }
+    ensures again { result < most → (result * rows) % ys ≡ 0 }
+{
+    let mut period = step;
+    'steps: while period < most {
+        if period * rows % ys == 0 {
+            return period;
+        }
+        period += step;
+    }
+    most
+}
+
+/// After how many chunks of so many lines the samples of all groups come again, or else `most`.
+fn period(groups: &[Group], rows: u32, most: u32) -> u32
+    requires some { 1 ≤ most }
+    requires sampled { All (λ g. 1 ≤ g.ys) groups.now }
+    requires small { most * rows ≤ 2 ^ 30 }
+    requires few { most ≤ 2 ^ 30 }
+    ensures some { 1 ≤ result }
+    ensures within { result ≤ most }
+    ensures again { result < most → IsPeriod groups.now rows result }
+{
+    let mut period = 1;
+    for group in groups {
+        period = multiple(period, group.ys, rows, most);
+    }
+    period
+}
+
+/// Adds the bytes of a group to the sizes of the first chunks.
+fn add(sizes: &mut [u32], rows: u32, group: Group)
+    requires some { 1 ≤ rows }
+    requires sampled { 1 ≤ group.ys }
+    requires few { length sizes.old * rows ≤ 2 ^ 30 }
+    requires small { (i : ℕ) → i < length sizes.old → slice_index sizes.old i + group_bytes rows i group ≤ 2 ^ 26 }
+    ensures length { length sizes.new ≡ length sizes.old }
+    ensures more { (i : ℕ) → i < length sizes.old → slice_index sizes.new i ≡ slice_index sizes.old i + group_bytes rows i group }
+{
+    let rows = rows as usize;
+    let lines = sizes.len() * rows;
+    let mut line = 0;
+    'samples: while line < lines {
+        sizes[line / rows] += group.bytes;
+        line += group.ys as usize;
+    }
+}
+
+/// The sizes of the first of so many whole chunks, up to where they come again.
+fn cycle_of(alloc: Global, groups: &[Group], rows: u32, whole: u32) -> Result<Vec<u32>, NoMemory>
+    requires some { 1 ≤ rows }
+    requires sampled { All (λ g. 1 ≤ g.ys) groups.now }
+    requires few { whole * rows ≤ 2 ^ 30 }
+    requires small { (i : ℕ) → i < whole → groups_bytes groups.now rows i ≤ 2 ^ 26 }
+    ensures { IfOk result (λ cycle. IsCycle groups.now rows whole cycle.items) }
+{
+    if whole == 0 {
+        return Ok(Vec::new(alloc));
+    }
+    let count = period(groups, rows, whole);
+    let mut cycle = vec![in alloc; 0u32; count as usize]?;
+    for group in groups {
+        add(cycle.as_mut_slice(), rows, *group);
+    }
+    Ok(cycle)
+}
+
+/// The sizes of the chunks of a part in lines, flat and without tiles.
+fn lines_of(alloc: Global, header: &Header, rows: u32, count: u32) -> Result<RawSizes, NoMemory>
+    requires { IsInLines header.now rows count }
+    ensures { IfOk result (λ sizes. HasRawSizes sizes header.now) }
+{
+    let channels = header.channels();
+    let window = header.window();
+    let groups = groups_of(alloc, channels, window)?;
+    let whole = count - 1;
+    let cycle = cycle_of(alloc, groups.as_slice(), rows, whole)?;
+    let last = Shape {
+        channels,
+        region: Box2i {
+            x0: window.x0,
+            y0: start(window.y0, window.y1, rows, whole),
+            x1: window.x1,
+            y1: window.y1,
+        },
+    };
+    Ok(RawSizes::Lines {
+        cycle,
+        last: last.raw_size() as u32,
+    })
+}
+
+impl RawSizes {
+    /// The raw sizes of a part's chunks, of which one that is not cut has so many lines.
+    pub fn new(alloc: Global, header: &Header, rows: u32, count: u32) -> Result<RawSizes, NoMemory>
+        requires picture { IsPicture header.now }
+        requires measured { IsMeasured header.now }
+        requires rows { rows ≡ chunk_height header.now }
+        requires count { count ≡ chunk_count_of header.now }
+        ensures { IfOk result (λ sizes. HasRawSizes sizes header.now) }
+    {
+        if header.kind().is_deep() {
+            return Ok(RawSizes::Pixels { bytes: 4 });
+        }
+        match pixel(header.channels()) {
+            Some(bytes) => Ok(RawSizes::Pixels { bytes }),
+            None => lines_of(alloc, header, rows, count),
+        }
+    }
+}
