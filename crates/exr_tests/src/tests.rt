@@ -2,5 +2,6 @@
 
 mod files;
 mod runs;
+mod spelled;
 mod table;
 mod windows;
