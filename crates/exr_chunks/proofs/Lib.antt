@@ -13,3 +13,4 @@ pub mod Pixels
 pub mod Repeats
 pub mod Cycles
 pub mod InLines
+pub mod Dense

@@ -88,7 +88,7 @@ as_many s z a (suc n) some multiple =
 
 -- ---- how many multiples lie below a place
 
-pub below : ℕ → ℕ → ℕ
+unfoldable pub below : ℕ → ℕ → ℕ
 below s t = (t + s - 1) / s
 
 below_none : (s : ℕ) → 0 < s → below s 0 ≡ 0

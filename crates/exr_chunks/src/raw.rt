@@ -79,8 +79,31 @@ fn period(groups: &[Group], rows: u32, most: u32) -> u32
     period
 }
 
-/// Adds the bytes of a group to the sizes of the first chunks.
-fn add(sizes: &mut [u32], rows: u32, group: Group)
+/// Adds the bytes of a group that has samples in each chunk: there is one within as many lines as a chunk has.
+fn add_to_each(sizes: &mut [u32], rows: u32, group: Group)
+    requires sampled { 1 ≤ group.ys }
+    requires dense { group.ys ≤ rows }
+    requires small { (i : ℕ) → i < length sizes.old → slice_index sizes.old i + group_bytes rows i group ≤ 2 ^ 26 }
+    ensures length { length sizes.new ≡ length sizes.old }
+    ensures more { (i : ℕ) → i < length sizes.old → slice_index sizes.new i ≡ slice_index sizes.old i + group_bytes rows i group }
+{
+    let least = rows / group.ys;
+    let rest = rows % group.ys;
+    // the lines of a chunk before its first sample
+    let mut before = 0;
+    for i in 0..sizes.len() {
+        if before < rest {
+            sizes[i] += (least + 1) * group.bytes;
+            before += group.ys - rest;
+        } else {
+            sizes[i] += least * group.bytes;
+            before -= rest;
+        }
+    }
+}
+
+/// Adds the bytes of a group line by line.
+fn add_to_lines(sizes: &mut [u32], rows: u32, group: Group)
     requires some { 1 ≤ rows }
     requires sampled { 1 ≤ group.ys }
     requires few { length sizes.old * rows ≤ 2 ^ 30 }
@@ -94,6 +117,22 @@ fn add(sizes: &mut [u32], rows: u32, group: Group)
     'samples: while line < lines {
         sizes[line / rows] += group.bytes;
         line += group.ys as usize;
+    }
+}
+
+/// Adds the bytes of a group to the sizes of the first chunks, in no more steps than there are chunks.
+fn add(sizes: &mut [u32], rows: u32, group: Group)
+    requires some { 1 ≤ rows }
+    requires sampled { 1 ≤ group.ys }
+    requires few { length sizes.old * rows ≤ 2 ^ 30 }
+    requires small { (i : ℕ) → i < length sizes.old → slice_index sizes.old i + group_bytes rows i group ≤ 2 ^ 26 }
+    ensures length { length sizes.new ≡ length sizes.old }
+    ensures more { (i : ℕ) → i < length sizes.old → slice_index sizes.new i ≡ slice_index sizes.old i + group_bytes rows i group }
+{
+    if group.ys <= rows {
+        add_to_each(sizes, rows, group);
+    } else {
+        add_to_lines(sizes, rows, group);
     }
 }
 

@@ -417,7 +417,7 @@ struct Sampled {
 }
 
 /// Of each: how its sizes come again.
-const SAMPLED: [Sampled; 7] = [
+const SAMPLED: [Sampled; 8] = [
     // every second line has the samples of both
     Sampled {
         method: NO,
@@ -459,6 +459,13 @@ const SAMPLED: [Sampled; 7] = [
         lines: (30, 35),
         samplings: &[(2, 3), (1, 3), (1, 2)],
         sizes: &[48],
+    },
+    // blocks with one line of samples, and with none
+    Sampled {
+        method: PIZ,
+        lines: (0, 119),
+        samplings: &[(1, 40), (4, 120)],
+        sizes: &[10, 8, 8, 0],
     },
     // samples at some columns of every line
     Sampled {

@@ -2,7 +2,7 @@
 use Rattle.std.proofs.Common.{◌≡◌, ◌*◌, ◌%◌, ◌≤◌, ℕ, length, refl, ◌∙◌, arith, slice_index}
 use Rattle.std.proofs.lemmas.List.{length-set}
 use Rattle.exr_chunks.proofs.Cycles.{nothing_added, next_whole, add_fits, one_added, all_added}
-use Rattle.exr_chunks.proofs.raw.add.Goals as goal
+use Rattle.exr_chunks.proofs.raw.add_to_lines.Goals as goal
 
 zero_whole : (s : ℕ) → 0 % s ≡ 0
 zero_whole s = omega arith

@@ -1,6 +1,6 @@
 use Rattle.std.proofs.Common.{◌-◌, length}
 use Rattle.exr_chunks.proofs.Cycles.{AreAdded}
-use Rattle.exr_chunks.proofs.raw.add.Given as goal
+use Rattle.exr_chunks.proofs.raw.add_to_lines.Given as goal
 
 -- the bytes of the lines so far are added
 abbrev pub invariant-samples : goal.invariant-samples
