@@ -73,7 +73,7 @@ def main():
             words = [launcher, PROGRAM, "extract", "in=" + source, "out=" + os.path.join(folder, "b")]
             status, peak, time = map(int, subprocess.run(words, check=True, stdout=subprocess.PIPE).stdout.split())
             print(f"| {name} | {status} | {len(data):,} | {peak / 1024:.1f} | {time / 1000:.1f} |", flush=True)
-            if status != 3 or peak > 32 * 1024:
+            if status == 0 or peak > 32 * 1024:
                 sys.exit("not refused, or with too much memory")
 
 
