@@ -31,6 +31,8 @@ pub fn read_first<W: World, S: Source>(
 ) -> Result<(), ReadCause>
     requires part { part < length stream.old.head.parts }
     requires flat { IsTrue (is_flat (header_at stream.old.head.parts part)) }
+    ensures first { IsTrue S.means.tells → OnOk result (HaveDataOf (S.means.content stream.old.source)
+        stream.old.head stream.old.head_bytes part (chunks_of_window (header_at stream.old.head.parts part) window) 1) }
     ensures same { IsSameStream S.means stream.old stream.new }
     ensures later { S.means.faults stream.old.source ≤ S.means.faults stream.new.source }
     ensures cause { IfErr result (λ cause. HasCause cause (λ i fault. IsTrue S.means.tells
