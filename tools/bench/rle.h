@@ -1,28 +1,27 @@
-/* Run lengths in plain C: `rle_pack` and `rle_unpack`, each giving a buffer of its own. */
+/* Run lengths in plain C: `rle_pack` and `rle_unpack`, each giving a buffer of its own, and `rle_unpack_into` buffers that are there. */
 #pragma once
 #include <stdint.h>
 #include <stdlib.h>
 #include <string.h>
 
-/* The raw bytes, or null where the packed data does not stand for so many. */
-static inline uint8_t *rle_unpack(const uint8_t *packed, size_t size, size_t wanted) {
-    uint8_t *bytes = malloc(wanted + 1), *raw = malloc(wanted + 1);
+/* Unpacks into `raw`, with room for as many bytes in `bytes`, and answers whether the packed data stands for just so many. */
+static inline int rle_unpack_into(const uint8_t *packed, size_t size, uint8_t *bytes, uint8_t *raw, size_t wanted) {
     size_t at = 0, to = 0;
     while (at < size) {
         size_t count = packed[at++];
         if (count < 128) {
             count++;
-            if (at == size || count > wanted - to) goto broken;
+            if (at == size || count > wanted - to) return 0;
             memset(bytes + to, packed[at++], count);
         } else {
             count = 256 - count;
-            if (count > size - at || count > wanted - to) goto broken;
+            if (count > size - at || count > wanted - to) return 0;
             memcpy(bytes + to, packed + at, count);
             at += count;
         }
         to += count;
     }
-    if (to != wanted) goto broken;
+    if (to != wanted) return 0;
     uint8_t before = 128;
     for (size_t k = 0; k < wanted; k++) bytes[k] = before += bytes[k] - 128;
     size_t pairs = wanted / 2, middle = wanted - pairs;
@@ -31,10 +30,15 @@ static inline uint8_t *rle_unpack(const uint8_t *packed, size_t size, size_t wan
         raw[2 * k + 1] = bytes[middle + k];
     }
     if (pairs < middle) raw[2 * pairs] = bytes[pairs];
+    return 1;
+}
+
+/* The raw bytes, or null where the packed data does not stand for so many. */
+static inline uint8_t *rle_unpack(const uint8_t *packed, size_t size, size_t wanted) {
+    uint8_t *bytes = malloc(wanted + 1), *raw = malloc(wanted + 1);
+    int is_whole = rle_unpack_into(packed, size, bytes, raw, wanted);
     free(bytes);
-    return raw;
-broken:
-    free(bytes);
+    if (is_whole) return raw;
     free(raw);
     return 0;
 }
