@@ -8,7 +8,7 @@ number_of [] = 0
 number_of (true ∷ bits) = 2 ^ length bits + number_of bits
 number_of (false ∷ bits) = number_of bits
 
--- the low bits of a number, so many (own)
+-- the n low bits of a number (own)
 unfoldable pub bits_of : ℕ → ℕ → List Bool
 bits_of zero number = []
 bits_of (suc n) number = (number / 2 ^ n % 2 == 1) ∷ bits_of n number
@@ -17,7 +17,7 @@ bits_of (suc n) number = (number / 2 ^ n % 2 == 1) ∷ bits_of n number
 unfoldable pub bits_of_bytes : List ℕ → List Bool
 bits_of_bytes bytes = flat_map (bits_of 8) bytes
 
--- the first bytes, so many, that a list of bits spells with zero bits behind it (own)
+-- the first n bytes that a list of bits spells, followed by zero bits (own)
 unfoldable pub first_bytes_of : ℕ → List Bool → List ℕ
 first_bytes_of zero bits = []
 first_bytes_of (suc n) bits = number_of (take 8 (bits ++ replicate 8 false)) ∷ first_bytes_of n (drop 8 bits)

@@ -1,4 +1,5 @@
 pub mod Bits
+pub mod Boxes
 pub mod Channel
 pub mod Cursor
 pub mod Method

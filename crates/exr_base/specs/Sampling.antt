@@ -1,5 +1,5 @@
 -- The places at which a channel has samples: the multiples of its sampling.
-use Rattle.std.specs.Prelude.{◌≡◌, ◌==◌, ◌%◌, ◌+◌, ℕ, zero, suc, ℤ, pos, ◌+ℤ◌, ◌-ℤ◌, ◌≤ℤ◌, ◌<ℤ◌, nat_abs, Bool, IsTrue, false, if◌then◌else◌}
+use Rattle.std.specs.Prelude.{◌≡◌, ◌==◌, ◌%◌, ◌+◌, ◌-◌, ◌/◌, ℕ, zero, suc, ℤ, pos, ◌+ℤ◌, ◌-ℤ◌, ◌≤ℤ◌, ◌<ℤ◌, nat_abs, Bool, IsTrue, false, if◌then◌else◌}
 
 abbrev pub is_multiple : ℕ → ℤ → Bool
 is_multiple sampling z = (nat_abs z % sampling) == 0
@@ -17,6 +17,14 @@ span_of from to = nat_abs ((to -ℤ from) +ℤ pos 1)
 -- how many multiples of the sampling there are from one place to another, both included
 abbrev pub sample_count_of : ℕ → ℤ → ℤ → ℕ
 sample_count_of sampling from to = multiples_among sampling from (span_of from to)
+
+-- how many multiples of the sampling there are from one place on and before another
+abbrev pub count_before : ℕ → ℤ → ℤ → ℕ
+count_before sampling from to = multiples_among sampling from (nat_abs (to -ℤ from))
+
+-- how many pieces of some size cover a length
+abbrev pub pieces : ℕ → ℕ → ℕ
+pieces size length = (length + size - 1) / size
 
 -- the least multiple of the sampling that is at least `from`
 pub record IsFirstSample (sampling : ℕ) (from first : ℤ) : Type 0 where

@@ -1,10 +1,10 @@
 -- Regions of pixels, and the raw bytes of the samples in one: line by line from the top, on each line channel by
 -- channel, of each channel its samples from left to right.
-use Rattle.std.specs.Prelude.{◌≤◌, ◌+◌, ◌*◌, ◌^◌, ℕ, zero, suc, ℤ, pos, neg_ℤ, ◌+ℤ◌, ◌-ℤ◌, ◌≤ℤ◌, List, length, sum_by, if◌then◌else◌, All}
+use Rattle.std.specs.Prelude.{◌≤◌, ◌+◌, ◌*◌, ◌^◌, ℕ, zero, suc, ℤ, pos, neg_ℤ, ◌+ℤ◌, ◌-ℤ◌, ◌≤ℤ◌, nat_abs, List, length, take, sum_by, if◌then◌else◌, All}
 use Rattle.exr_base.specs.declared.shape.Box2i.{Box2i}
 use Rattle.exr_base.specs.declared.channel.Channel.{Channel}
-use Rattle.exr_base.specs.Channel.{bytes_of}
-use Rattle.exr_base.specs.Sampling.{is_multiple, multiples_among, span_of}
+use Rattle.exr_base.specs.Channel.{bytes_of, channel_at}
+use Rattle.exr_base.specs.Sampling.{is_multiple, multiples_among, span_of, count_before}
 
 -- pixels in a line
 abbrev pub width_of : Box2i → ℕ
@@ -32,6 +32,18 @@ lines_bytes_of channels region (suc n) =
 -- the bytes of the region
 abbrev pub raw_size_of : List Channel → Box2i → ℕ
 raw_size_of channels region = lines_bytes_of channels region (height_of region)
+
+-- where the samples of channel number c on line y begin in the raw bytes of a region: after all lines above, and after
+-- the earlier channels of the line
+abbrev pub row_place_of : List Channel → Box2i → ℕ → ℤ → ℕ
+row_place_of channels region c y =
+    lines_bytes_of channels region (nat_abs (y -ℤ region.y0)) + sum_by (row_bytes_of region y) (take c channels)
+
+-- where its sample at (x, y) begins: after the channel's samples to the left
+unfoldable pub raw_place_of : List Channel → Box2i → ℕ → ℤ → ℤ → ℕ
+raw_place_of channels region c x y =
+    row_place_of channels region c y
+    + count_before (channel_at channels c).xs region.x0 x * bytes_of (channel_at channels c).kind
 
 -- the bytes that a channel has in the region
 abbrev pub channel_bytes_of : Box2i → Channel → ℕ

@@ -1,4 +1,4 @@
-//! Bits in bytes, the high bit first: a reader over a slice and a writer that fills bytes.
+//! Bits in bytes, the high bit of each byte first: a reader over a slice and a writer into a vector.
 
 ghost use Rattle.std.specs.Prelude.{◌≡◌, ℕ, ◌+◌, ◌*◌, ◌^◌, ◌<◌, ◌≤◌, ◌↔◌, ◌++◌, [], List, length, take, drop, IsNone, IfSome, IfNone, OnOk, OnErr, OnSome};
 ghost use Rattle.exr_base.specs.Bits.{number_of, bits_of, bits_of_bytes, bytes_of};
@@ -28,7 +28,7 @@ fn number_at(bytes: &[u8], at: u64, n: u32) -> u64
     value
 }
 
-/// The `count` bits of a byte behind its first `offset` bits.
+/// Bits `offset` to `offset + count` of a byte, its high bit being bit 0.
 fn bits_within(byte: u8, offset: u32, count: u32) -> u64
     requires { offset + count ≤ 8 }
     ensures value { result ≡ number_of (take count (drop offset (bits_of 8 byte))) }
@@ -38,7 +38,7 @@ fn bits_within(byte: u8, offset: u32, count: u32) -> u64
     above & ((1 << count) - 1)
 }
 
-/// Reads numbers of a given width off the front of a slice's bits. Contracts see the list of bits that are left.
+/// Reads numbers of `n` bits, one after another, from a slice. Its value in contracts is the list of bits that are left.
 #[derive(Drop)]
 pub struct BitReader<'a> {
     bytes: &'a [u8],
@@ -58,7 +58,7 @@ impl<'a> Model for BitReader<'a> {
 }
 
 impl<'a> BitReader<'a> {
-    /// A reader of the first `bits` bits.
+    /// A reader of the first `bits` bits of a slice.
     pub fn new(bytes: &'a [u8], bits: u64) -> BitReader<'a>
         requires { bits ≤ 8 * length bytes.now }
         ensures { result ≡ take bits (bits_of_bytes bytes.now) }
@@ -70,7 +70,7 @@ impl<'a> BitReader<'a> {
         }
     }
 
-    /// The next `n` bits as a number, or None where fewer are left; nothing is then taken.
+    /// The next `n` bits as a number; `None` where fewer are left, and nothing is taken then.
     pub fn take(&mut self, n: u32) -> Option<u64>
         requires { n ≤ 64 }
         ensures none { IsNone result ↔ (length self.old < n) }
@@ -87,7 +87,7 @@ impl<'a> BitReader<'a> {
     }
 }
 
-/// Writes numbers of a given width behind each other. Contracts see the list of bits that were written.
+/// Writes numbers of `n` bits, one after another. Its value in contracts is the list of bits that were written.
 #[derive(Drop)]
 pub struct BitWriter {
     bytes: Vec<u8>,
@@ -118,7 +118,7 @@ impl BitWriter {
         }
     }
 
-    /// Writes `value` in `n` bits. A refusal leaves the writer as it was.
+    /// Appends `value` in `n` bits. Where memory runs out the writer is unchanged.
     pub fn push(&mut self, n: u32, value: u64) -> Result<(), NoMemory>
         requires width { n ≤ 64 }
         requires fits { value < 2 ^ n }
@@ -142,7 +142,7 @@ impl BitWriter {
         Ok(())
     }
 
-    /// The bytes, the last one filled with zero bits.
+    /// The bytes that were written, the last one filled up with zero bits.
     pub fn finish(self) -> Vec<u8>
         ensures { result.items ≡ bytes_of self }
     {
@@ -155,32 +155,5 @@ impl BitWriter {
             bytes.push_reserved((pending << (8 - count)) as u8);
         }
         bytes
-    }
-}
-
-#[cfg(test)]
-mod tests {
-    use super::*;
-    use std::test::Fail;
-
-    // Two numbers of six bits are the first twelve bits of `04 10`, and four zero bits fill the second byte.
-    #[test]
-    fn written_and_read(rt: HostRuntime) -> Result<(), Fail> {
-        let mut writer = BitWriter::new(rt.alloc());
-        writer.push(6, 1)?;
-        writer.push(6, 1)?;
-        writer.push(0, 0)?;
-        let bytes = writer.finish();
-        assert_eq!(rt; bytes.as_slice(), [0x04, 0x10].as_slice());
-
-        let text = [0xff, 0x12, 0x34, 0x56, 0x78, 0x9a, 0xbc, 0xde, 0xf0];
-        let mut reader = BitReader::new(&text, 70);
-        assert_eq!(rt; reader.take(4), Some(15));
-        assert_eq!(rt; reader.take(64), Some(0xf123_4567_89ab_cdef));
-        assert_eq!(rt; reader.take(3), None);
-        assert_eq!(rt; reader.take(2), Some(0));
-        assert_eq!(rt; reader.take(1), None);
-        assert_eq!(rt; reader.take(0), Some(0));
-        Ok(())
     }
 }

@@ -1,11 +1,13 @@
-//! Channels of an image and the kinds of their samples.
+//! The channels of a part and the pixel types of their samples.
 
-ghost use Rattle.std.specs.Prelude.{◌≡◌};
-ghost use Rattle.exr_base.specs.Channel.{bytes_of};
+ghost use Rattle.std.specs.Prelude.{◌≡◌, ◌<◌, length, position, IfOk, IfSome};
+ghost use Rattle.exr_base.specs.Channel.{bytes_of, is_named};
 
-use crate::Name;
+use crate::name::Name;
+use crate::refusal::NoMemory;
+use std::alloc::Global;
 
-/// The kind of a channel's samples. Samples are carried as bits: nothing here computes with them as numbers.
+/// The pixel type of a channel. Samples are carried as bits; nothing computes with them as numbers.
 ///
 /// File Layout, "Predefined Attribute Types": the pixel types of a channel list.
 #[derive(Clone, Copy, Debug, PartialEq, Eq)]
@@ -31,17 +33,51 @@ impl Kind {
     }
 }
 
-/// A channel of a part, as its channel list says it.
+/// One entry of a channel list.
 ///
 /// File Layout, "Predefined Attribute Types": chlist.
 #[derive(Drop, Debug)]
 pub struct Channel {
     pub name: Name,
     pub kind: Kind,
-    /// The pLinear byte: 0, or a hint to lossy methods that the samples are to be taken as perceptually linear.
+    /// The pLinear byte: not 0 is a hint to lossy methods that the samples are perceptually linear.
     pub linear: u8,
     /// The channel has samples only where x is a multiple of this.
     pub xs: u32,
     /// The channel has samples only where y is a multiple of this.
     pub ys: u32,
+}
+
+impl Channel {
+    /// The same channel again.
+    pub fn copy(&self) -> Result<Channel, NoMemory>
+        ensures { IfOk result (λ copy. copy ≡ self.now) }
+    {
+        Ok(Channel {
+            name: self.name.clone()?,
+            kind: self.kind,
+            linear: self.linear,
+            xs: self.xs,
+            ys: self.ys,
+        })
+    }
+}
+
+/// The same channels again, in the same order.
+pub fn copy_channels(alloc: Global, channels: &[Channel]) -> Result<Vec<Channel>, NoMemory>
+    ensures { IfOk result (λ copies. copies.items ≡ channels.now) }
+{
+    let mut copies = Vec::with_capacity(alloc, channels.len())?;
+    for channel in channels {
+        copies.push(channel.copy()?)?;
+    }
+    Ok(copies)
+}
+
+/// The place of the first channel of a name.
+pub fn find_channel(channels: &[Channel], name: &Name) -> Option<usize>
+    ensures exact { result ≡ position (is_named name.now) channels.now }
+    ensures within { IfSome result (λ place. place < length channels.now) }
+{
+    channels.iter().position(|channel| channel.name == *name)
 }

@@ -24,7 +24,7 @@ impl<'a> Model for Cursor<'a> {
 }
 
 impl<'a> Cursor<'a> {
-    /// The front of these bytes.
+    /// A cursor at the front of these bytes.
     pub fn new(bytes: &'a [u8]) -> Cursor<'a>
         ensures { result ≡ record { whole = bytes.now; at = 0 } }
     {
@@ -45,7 +45,7 @@ impl<'a> Cursor<'a> {
         self.bytes.len() - self.at
     }
 
-    /// The next `n` bytes; None exactly where fewer are left, and then nothing is taken.
+    /// The next `n` bytes; `None` exactly where fewer are left, and nothing is taken then.
     pub fn take(&mut self, n: usize) -> Option<&'a [u8]>
         ensures none { MatchOption result (length (left_of self.old) < n) (λ _. n ≤ length (left_of self.old)) }
         ensures bytes { MatchOption result (self.new ≡ self.old) (λ bytes. bytes.now ≡ take n (left_of self.old)) }

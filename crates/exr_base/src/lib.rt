@@ -12,13 +12,10 @@ mod sampling;
 mod shape;
 
 pub use bits::{BitReader, BitWriter};
-pub use channel::{Channel, Kind};
+pub use channel::{Channel, Kind, copy_channels, find_channel};
 pub use cursor::Cursor;
 pub use method::Method;
 pub use name::Name;
 pub use refusal::{Failed, NoMemory, Refusal};
-pub use sampling::{first_sample, sample_count};
-pub use shape::{Box2i, Shape};
-
-#[cfg(test)]
-mod tests;
+pub use sampling::{first_sample, pieces, sample_count, span};
+pub use shape::{Box2i, Shape, is_side_inside};

@@ -1,9 +1,9 @@
-//! Methods of compression by their numbers.
+//! The compression methods and their numbers in files.
 
 ghost use Rattle.std.specs.Prelude.{◌≡◌};
 ghost use Rattle.exr_base.specs.Method.{method_of, number_of, lines_of};
 
-/// A method of compression. File Layout, "Predefined Attribute Types": compression.
+/// A compression method. File Layout, "Predefined Attribute Types": compression.
 #[derive(Clone, Copy, Debug, PartialEq, Eq)]
 pub enum Method {
     /// Raw data.
@@ -20,7 +20,7 @@ pub enum Method {
     Pxr24,
     /// Cells of 4 by 4 halves in 14 bytes.
     B44,
-    /// The same, flat cells in 3 bytes.
+    /// As B44, and flat cells in 3 bytes.
     B44a,
     /// Cosine transform, 32 lines at a time.
     Dwaa,
@@ -29,7 +29,7 @@ pub enum Method {
 }
 
 impl Method {
-    /// The method of a number; None exactly above 9.
+    /// The method with a number; `None` exactly above 9.
     pub fn of(number: u8) -> Option<Method>
         ensures { result ≡ method_of number }
     {
@@ -66,7 +66,7 @@ impl Method {
         }
     }
 
-    /// How many scan lines a block of a scan-line part has, but for the last block of the part.
+    /// Scan lines per block of a scan-line part; the last block of a part may have fewer.
     ///
     /// File Layout, "Regular Scan Line Blocks".
     pub fn lines(self) -> u32

@@ -1,4 +1,4 @@
-//! Names of attributes, types, channels and parts, and their comparisons by bytes.
+//! Names of attributes, attribute types, channels and parts, compared by their bytes.
 
 ghost use Rattle.std.specs.Prelude.{◌≡◌, nat_eq};
 ghost use Rattle.std.specs.Cmp.Lexicographic.{pointwise, slice_cmp};
@@ -14,14 +14,14 @@ use std::cmp::Ordering;
 use std::hash::{Hash, Hasher};
 use std::marker::Model;
 
-/// The most bytes that a name has: a long name, by File Layout, "Components One and Two: Magic Number and Version
+/// The most bytes that a name has, where a file has long names: by File Layout, "Components One and Two: Magic Number and Version
 /// Field".
 const LONGEST: usize = 255;
 
-/// A name: 1 to 255 bytes, none of them zero, kept in the value itself.
+/// A name of 1 to 255 bytes, none of them zero, kept inline.
 ///
-/// The bytes are those of the file, without the zero that ends a name there, and in no particular encoding.
-/// Names are equal where their bytes are, and stand in the order of their bytes.
+/// The bytes are those of the file, without the zero that ends a name there, in no particular encoding. Names are
+/// equal where their bytes are, and are ordered by their bytes.
 #[derive(Drop, Debug)]
 pub struct Name {
     bytes: ArrayVec<u8, LONGEST>,
@@ -39,7 +39,7 @@ impl Model for Name {
 }
 
 impl Name {
-    /// The name with these bytes, or None where they are none: no byte, more than 255, or a zero among them.
+    /// The name with these bytes; `None` where there is none, more than 255, or a zero among them.
     pub fn new(bytes: &[u8]) -> Option<Name>
         ensures { result ≡ name_of bytes.now }
     {

@@ -1,5 +1,4 @@
-//! The three ways in which a call can fail: want of memory, a failure of the outside, and a fault that the call
-//! itself found.
+//! Why a call can fail: memory ran out, reading or writing failed, or the call found a fault in what it was given.
 
 ghost use Rattle.std.specs.Prelude.{◌≡◌, ⊤};
 ghost use Rattle.exr_base.specs.declared.refusal.Refusal.TheVariants as refusal;
@@ -7,7 +6,7 @@ ghost use Rattle.exr_base.specs.declared.refusal.Refusal.TheVariants as refusal;
 use std::alloc::{AllocError, AllocFailed};
 use thiserror::Error;
 
-/// Memory ran out. No promise speaks of when this comes: any call that may answer it may do so at any time.
+/// Memory ran out. No contract says when: a call whose errors include it may return it at any time.
 #[derive(Clone, Copy, Debug, PartialEq, Eq, Error)]
 #[error("no memory")]
 pub struct NoMemory;
@@ -17,7 +16,7 @@ pub struct NoMemory;
 #[error("failed")]
 pub struct Failed;
 
-/// Why a call refused: the fault that it found, or want of memory.
+/// The error of a call that reads or checks something: the fault that it found, or out of memory.
 #[derive(Clone, Copy, Debug, PartialEq, Eq)]
 pub enum Refusal<T> {
     Fault(T),

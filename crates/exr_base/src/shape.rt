@@ -1,6 +1,7 @@
-//! Boxes of pixels, and the raw size of the samples in one.
+//! Boxes of pixels, and the number of bytes of the samples in one.
 
 ghost use Rattle.std.specs.Prelude.{◌≡◌, ◌≤◌, ◌^◌};
+ghost use Rattle.exr_base.specs.Boxes.{is_empty, is_side_inside, is_inside};
 ghost use Rattle.exr_base.specs.Shape.{IsShape, IsRegion, IsSampled, raw_size_of, channel_bytes_of};
 
 use crate::channel::Channel;
@@ -15,6 +16,30 @@ pub struct Box2i {
     pub y0: i32,
     pub x1: i32,
     pub y1: i32,
+}
+
+impl Box2i {
+    /// Whether it has no pixel: it ends before it begins, in x or in y (own).
+    pub fn is_empty(self) -> bool
+        ensures { result ≡ is_empty self }
+    {
+        self.x1 < self.x0 || self.y1 < self.y0
+    }
+
+    /// Whether its first and last columns and lines lie among those of another box (own).
+    pub fn is_inside(self, other: Box2i) -> bool
+        ensures { result ≡ is_inside self other }
+    {
+        is_side_inside(self.x0, self.x1, other.x0, other.x1)
+            && is_side_inside(self.y0, self.y1, other.y0, other.y1)
+    }
+}
+
+/// Whether a side, from its first place to its last, lies within another.
+pub fn is_side_inside(from: i32, to: i32, low: i32, high: i32) -> bool
+    ensures { result ≡ is_side_inside from to low high }
+{
+    low <= from && to <= high
 }
 
 /// The channels of a part over a region of its pixels.
