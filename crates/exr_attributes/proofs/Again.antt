@@ -9,12 +9,13 @@ use Rattle.std.proofs.lemmas.List.Concat.{flat_map-cons}
 use Rattle.std.proofs.lemmas.Nat.{from_le_bytes-to_le_bytes_4}
 use Rattle.exr_base.specs.Cursor.{Position, left_of}
 use Rattle.exr_base.specs.Name.{IsName}
+use Rattle.exr_base.proofs.Logic.{neither}
 use Rattle.exr_attributes.specs.declared.attribute.Attribute.{Attribute}
 use Rattle.exr_attributes.specs.declared.attribute.Entry.{Entry}
 use Rattle.exr_attributes.specs.Entry.{is_named, has_name, AreEntries}
 use Rattle.exr_attributes.specs.Spelling.{ended, attribute_spelling, entry_spelling, entries_spelling, header_spelling, HasSize, AreSized}
 use Rattle.exr_attributes.specs.Reading.{moved, room_of, bytes_at, byte_at, number_at, text_from, text_at, kind_at, value_at, entry_at, next_at, entries_at, header_at}
-use Rattle.exr_attributes.proofs.Entries.{neither, has_name-push, bytes_eq-comm}
+use Rattle.exr_attributes.proofs.Entries.{has_name-push, bytes_eq-comm}
 
 -- a text stands at a place, with something behind it, and ends within the front
 pub record Stands (text rest : List ℕ) (p : Position) : Type 0 where

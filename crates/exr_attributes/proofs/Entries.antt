@@ -3,6 +3,7 @@ use Rattle.std.proofs.Common.{◌≡◌, ℕ, zero, suc, ◌<◌, ◌^◌, Bool,
 use Rattle.std.specs.List.{remove}
 use Rattle.std.proofs.lemmas.Bool.Decides.{nat_tests}
 use Rattle.std.specs.Str.{bytes_eq}
+use Rattle.exr_base.proofs.Logic.{neither}
 use Rattle.exr_base.specs.Name.{IsName}
 use Rattle.exr_attributes.specs.declared.attribute.Attribute.{Attribute}
 use Rattle.exr_attributes.specs.declared.attribute.Entry.{Entry}
@@ -16,10 +17,6 @@ or_false false = refl
 or_assoc : (a b c : Bool) → (a || (b || c)) ≡ ((a || b) || c)
 or_assoc true b c = refl
 or_assoc false b c = refl
-
-pub neither : (a b : Bool) → (a || b) ≡ false → (a ≡ false) × (b ≡ false)
-neither true b e = absurd cc
-neither false b e = (refl, e)
 
 -- a list that begins with another name
 rest_first : (name : List ℕ) (e : Entry) (es : List Entry) (i : ℕ) → IsFirst name (e ∷ es) (suc i) → (is_named name e ≡ false) × IsFirst name es i

@@ -15,6 +15,7 @@ use Rattle.std.proofs.lemmas.Map.Keys.{sorted_from_all_adjacent, IsDistinct-from
 use Rattle.exr_base.specs.Cursor.{Position}
 use Rattle.exr_base.specs.Name.{IsName}
 use Rattle.exr_base.specs.declared.refusal.Refusal.TheVariants as refusal
+use Rattle.exr_base.proofs.Logic.{neither}
 use Rattle.exr_attributes.specs.declared.fault.HeaderFault.{HeaderFault}
 use Rattle.exr_attributes.specs.declared.fault.HeaderFault.TheVariants.{Twice}
 use Rattle.exr_attributes.specs.declared.attribute.Entry.{Entry}
@@ -23,7 +24,7 @@ use Rattle.exr_attributes.specs.Spelling.{HasSize, AreSized, AreAttributes}
 use Rattle.exr_attributes.specs.Reading.{next_at, entries_at, header_at, past_of}
 use Rattle.exr_attributes.specs.Number.{name_number}
 use Rattle.exr_attributes.specs.Pass.{AreDistinct, AreRising, AreRead, IsSecond, IsFirstSecond, ended_by, IsPass}
-use Rattle.exr_attributes.proofs.Entries.{neither, bytes_eq-comm, has_name-push, has_name-push_false}
+use Rattle.exr_attributes.proofs.Entries.{bytes_eq-comm, has_name-push, has_name-push_false}
 use Rattle.exr_attributes.proofs.Heads.{goes_on, repeats, closes, fails, runs_out}
 
 -- ---- names told apart by their numbers

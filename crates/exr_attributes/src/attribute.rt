@@ -1,4 +1,4 @@
-//! Attributes, and their places in a header.
+//! Attributes, with and without their names.
 
 ghost use Rattle.std.specs.Prelude.{◌≡◌, IfOk};
 
@@ -7,7 +7,7 @@ use crate::value::AttributeValue;
 use exr_base::NoMemory;
 use std::alloc::Global;
 
-/// An attribute without its name: the name of its type, and its value.
+/// The name of an attribute's type, and its value.
 ///
 /// File Layout, "Component Three: Header": attribute type and attribute value.
 #[derive(Drop, Debug)]
@@ -16,7 +16,7 @@ pub struct Attribute {
     pub value: AttributeValue,
 }
 
-/// An attribute under its name.
+/// An attribute with its name.
 #[derive(Drop, Debug)]
 pub struct Entry {
     pub name: PackedName,
@@ -24,7 +24,7 @@ pub struct Entry {
 }
 
 impl Attribute {
-    /// The same attribute again.
+    /// A copy of the attribute.
     pub fn copy(&self, alloc: Global) -> Result<Attribute, NoMemory>
         ensures { IfOk result (λ attribute. attribute ≡ self.now) }
     {
@@ -35,7 +35,7 @@ impl Attribute {
 }
 
 impl Entry {
-    /// The same entry again.
+    /// A copy of the entry.
     pub fn copy(&self, alloc: Global) -> Result<Entry, NoMemory>
         ensures { IfOk result (λ entry. entry ≡ self.now) }
     {

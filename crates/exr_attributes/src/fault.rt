@@ -1,4 +1,4 @@
-//! What can be wrong with the head of a file. Places count bytes from the start of the input, parts and channels
+//! What can be wrong with the headers of a file. Offsets count bytes from the start of the input; parts and channels
 //! count from 0.
 
 ghost use Rattle.std.specs.Prelude.{◌≡◌};
@@ -6,7 +6,7 @@ ghost use Rattle.exr_attributes.specs.Fault.{number_of};
 
 use thiserror::Error;
 
-/// The attributes that a head needs, and those that are judged where they are there.
+/// The attributes that a header needs, and those that are validated where they are present.
 ///
 /// File Layout, "Header Attributes (All Files)", "Header Attributes for Tile Parts" and "Header Attributes for
 /// Multi-Part and Deep Data Files".
@@ -27,7 +27,7 @@ pub enum Field {
     Version,
 }
 
-/// The limits that a head can pass (own).
+/// The limits of a head, which is all headers of a file (own).
 #[derive(Clone, Copy, Debug, PartialEq, Eq)]
 pub enum Bound {
     /// 2^24 bytes.
@@ -42,20 +42,20 @@ pub enum Bound {
     Side,
     /// 2^20 chunks of all parts together.
     Chunks,
-    /// 2^26 raw bytes of a chunk, of a deep chunk its count table.
+    /// 2^26 raw bytes of a chunk; of a deep chunk, of its sample count table.
     RawChunk,
 }
 
-/// Why the bytes are no head of a file: the first fault from the front (own).
+/// Why the headers of a file are invalid: the first fault from the front (own).
 #[derive(Clone, Copy, Debug, PartialEq, Eq, Error)]
 pub enum HeaderFault {
-    /// A byte is wanted past the end of the input, which is at `at`.
+    /// The input ends at `at`, within the headers.
     #[error("the head ends at {at}")]
     Truncated { at: u64 },
-    /// From `at` on 256 bytes have no zero, or a type's name is empty.
+    /// A name that begins at `at` has more than 255 bytes, or a type's name is empty.
     #[error("no name at {at}")]
     BadName { at: u64 },
-    /// The size at `at` is negative.
+    /// The attribute size at `at` is negative.
     #[error("a negative size at {at}")]
     BadSize { at: u64 },
     /// The attribute that begins at `at` has the name of an earlier one of its header.
@@ -67,13 +67,13 @@ pub enum HeaderFault {
     /// The version is not 2, or a bit is set that has no meaning.
     #[error("unknown version {word}")]
     BadVersion { word: u32 },
-    /// A needed attribute is not there.
+    /// A required attribute is missing.
     #[error("part {part}: an attribute is missing")]
     Missing { part: u32, field: Field },
-    /// A judged attribute has another type.
+    /// An attribute does not have the type of its name.
     #[error("part {part}: an attribute has another type")]
     WrongType { part: u32, field: Field },
-    /// The channel list is none, or its names do not rise.
+    /// The channel list is malformed, or its names are not in increasing order.
     #[error("part {part}: no channel list")]
     BadChannels { part: u32 },
     /// The data window is empty.
@@ -82,34 +82,34 @@ pub enum HeaderFault {
     /// A sampling does not fit the data window or the kind of part.
     #[error("part {part}: the sampling of channel {channel}")]
     BadSampling { part: u32, channel: u32 },
-    /// A tile's side, a level mode or a rounding mode is none.
+    /// The tile description is malformed: a tile's side, the level mode or the rounding mode is out of range.
     #[error("part {part}: no tile description")]
     BadTiles { part: u32 },
-    /// The method of compression is unknown, or none of a deep part.
+    /// The compression method is unknown, or not one of a deep part.
     #[error("part {part}: unknown compression {number}")]
     UnknownCompression { part: u32, number: u8 },
-    /// The line order is unknown, or none of a part in scan lines.
+    /// The line order is unknown, or random in a part of scan lines.
     #[error("part {part}: line order {number}")]
     BadLineOrder { part: u32, number: u8 },
-    /// The type of part is unknown, or another than the one given.
+    /// The type of part is unknown, or not the kind that was given.
     #[error("part {part}: the type of part")]
     BadPartType { part: u32 },
     /// The part has the name of an earlier one.
     #[error("part {part}: a second part of one name")]
     TwicePart { part: u32 },
-    /// The number of chunks is another than the windows and the method give.
+    /// `chunkCount` differs from the number of chunks that the windows and the method give.
     #[error("part {part}: {said} chunks are said, {computed} computed")]
     ChunkCount { part: u32, said: i32, computed: u32 },
-    /// A limit is passed.
+    /// A limit is exceeded.
     #[error("past a limit")]
     Limit(Bound),
-    /// The part has more than one level.
+    /// The part is tiled in more than one level.
     #[error("part {part}: levels")]
     Levels { part: u32 },
     /// The version of deep data is not 1.
     #[error("part {part}: deep data of version {said}")]
     BadDeepVersion { part: u32, said: i32 },
-    /// The value has not its type's size.
+    /// The value does not have its type's size.
     #[error("part {part}: the size of an attribute")]
     FieldSize { part: u32, field: Field },
 }

@@ -1,8 +1,6 @@
-//! The attributes of a header under their names, in their order.
+//! The attributes of a header by name, in the order of the file.
 //!
-//! A look-up goes along the list: a header has a few dozen attributes, and no name that a stranger chose makes it
-//! slower than its length. Only reading, which tests each name of a header against all earlier ones, keeps the
-//! names in an ordered set.
+//! A look-up is a linear search: a header has a few dozen attributes.
 
 ghost use Rattle.std.specs.Prelude.{◌≡◌, ◌≤◌, false, [], length, slice_get, MatchOption, IfOk, OnOk, OnErr};
 ghost use Rattle.std.specs.Option.{option_copied};
@@ -15,7 +13,7 @@ use exr_base::NoMemory;
 use std::alloc::Global;
 use std::marker::Model;
 
-/// The attributes of one header, names distinct, in the order in which they stand in the file.
+/// The attributes of one header, with distinct names, in the order of the file.
 ///
 /// File Layout, "Component Three: Header".
 #[derive(Drop, Debug)]
@@ -36,7 +34,7 @@ impl Model for AttributeMap {
 }
 
 impl AttributeMap {
-    /// No attributes.
+    /// An empty map.
     pub fn new(alloc: Global) -> AttributeMap
         ensures { result ≡ [] }
     {
@@ -45,7 +43,7 @@ impl AttributeMap {
         }
     }
 
-    /// How many attributes there are.
+    /// The number of attributes.
     pub fn len(&self) -> usize
         ensures { result ≡ length self.now }
     {
@@ -61,7 +59,7 @@ impl AttributeMap {
         self.entries.as_slice()
     }
 
-    /// The name and the attribute at a place; None exactly at the length and past it.
+    /// The name and the attribute at an index; `None` exactly where it is not below `len`.
     pub fn at(&self, place: usize) -> Option<(&PackedName, &Attribute)>
         ensures { MatchOption result (length self.now ≤ place)
             (λ e. slice_get self.now place ≡ Some (record { name = e.0.now; attribute = e.1.now })) }
@@ -73,14 +71,14 @@ impl AttributeMap {
         Some((&entry.name, &entry.attribute))
     }
 
-    /// The attribute of a name; None exactly where there is none.
+    /// The attribute with a name; `None` exactly where there is none.
     pub fn get(&self, name: &PackedName) -> Option<&Attribute>
         ensures { option_copied result ≡ attribute_of name.now self.now }
     {
         self.find(name.bytes())
     }
 
-    /// The attribute whose name has these bytes; None exactly where there is none.
+    /// The attribute whose name has these bytes; `None` exactly where there is none.
     pub fn find(&self, name: &[u8]) -> Option<&Attribute>
         ensures { option_copied result ≡ attribute_of name.now self.now }
     {
@@ -90,8 +88,8 @@ impl AttributeMap {
         }
     }
 
-    /// Puts the attribute in the place of the one of that name, or at the end where there is none. After a refusal
-    /// the map is as it was.
+    /// Replaces the attribute with that name, or appends it where there is none. Where memory runs out the map is
+    /// unchanged.
     pub fn set(&mut self, name: PackedName, attribute: Attribute) -> Result<(), NoMemory>
         ensures ok { OnOk result (self.new ≡ with_attribute name attribute self.old) }
         ensures err { OnErr result (self.new ≡ self.old) }
@@ -110,7 +108,7 @@ impl AttributeMap {
         }
     }
 
-    /// Takes the attribute of a name away, so that the later ones move up. It answers whether the name was there.
+    /// Removes the attribute with a name; the later ones move up. Returns whether there was one.
     pub fn remove(&mut self, name: &PackedName) -> bool
         ensures there { result ≡ has_name name.now self.old }
         ensures rest { self.new ≡ without name.now self.old }
@@ -124,7 +122,7 @@ impl AttributeMap {
         }
     }
 
-    /// An equal map.
+    /// A copy of the map.
     pub fn copy(&self, alloc: Global) -> Result<AttributeMap, NoMemory>
         ensures { IfOk result (λ map. map ≡ self.now) }
     {
@@ -153,7 +151,7 @@ fn place_of(entries: &[Entry], name: &[u8]) -> Option<usize>
     None
 }
 
-/// The entries again.
+/// A copy of the entries.
 fn copied(alloc: Global, entries: &[Entry]) -> Result<Vec<Entry>, NoMemory>
     ensures { IfOk result (λ copies. copies.items ≡ entries.now) }
 {

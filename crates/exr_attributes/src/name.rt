@@ -1,7 +1,6 @@
-//! Names of attributes and of types, each in as many bytes as it has.
+//! Names of attributes and of types, each on the heap.
 //!
-//! A head can have a million attributes of ten bytes. A name that is kept in the value itself takes the room of
-//! 255 bytes each time; these take theirs.
+//! A file can have a million attributes of ten bytes: a name that is kept inline would take 255 bytes each time.
 
 ghost use Rattle.std.specs.Prelude.{◌≡◌, ⊤, nat_eq, IfOk};
 ghost use Rattle.std.specs.Cmp.Lexicographic.{pointwise, slice_cmp};
@@ -36,7 +35,7 @@ impl Model for PackedName {
 }
 
 impl PackedName {
-    /// The name with these bytes, or None where they are none: no byte, more than 255, or a zero among them.
+    /// The name with these bytes; `None` where there is none, more than 255, or a zero among them.
     pub fn new(alloc: Global, bytes: &[u8]) -> Result<Option<PackedName>, NoMemory>
         ensures { IfOk result (λ name. name ≡ name_of bytes.now) }
     {
@@ -47,7 +46,7 @@ impl PackedName {
         Ok(Some(PackedName { bytes }))
     }
 
-    /// The name that was read, or None where the bytes are none.
+    /// The same of bytes that were read.
     pub(crate) fn of(bytes: Vec<u8>) -> Option<PackedName>
         ensures { result ≡ name_of bytes.items }
     {
@@ -65,7 +64,7 @@ impl PackedName {
         self.bytes.as_slice()
     }
 
-    /// The same name again.
+    /// A copy of the name.
     pub fn copy(&self, alloc: Global) -> Result<PackedName, NoMemory>
         ensures { IfOk result (λ name. name ≡ self.now) }
     {

@@ -9,7 +9,7 @@ ghost use Rattle.exr_attributes.specs.Reading.{Reads, text_at, kind_at, value_at
 
 use crate::attribute::{Attribute, Entry};
 use crate::fault::HeaderFault;
-use crate::front::{LONGEST, byte, head_bytes, head_number, past};
+use crate::front::{HEAD_LIMIT, byte, head_bytes, head_number, past};
 use crate::map::AttributeMap;
 use crate::name::PackedName;
 use crate::seconds::first_second;
@@ -17,7 +17,7 @@ use crate::value::AttributeValue;
 use exr_base::{Cursor, NoMemory, Refusal};
 use std::alloc::Global;
 
-/// A text and the zero behind it, which is among the next 256 bytes.
+/// A text and the zero that ends it, which is among the next 256 bytes.
 fn text(alloc: Global, from: &mut Cursor) -> Result<Vec<u8>, Refusal<HeaderFault>>
     ensures { Reads (λ text. text.items) result from.new (text_at from.old) }
 {
@@ -60,7 +60,7 @@ fn value(alloc: Global, from: &mut Cursor) -> Result<AttributeValue, Refusal<Hea
     Ok(AttributeValue::new(alloc, bytes)?)
 }
 
-/// What follows the name of an attribute.
+/// The type and the value that follow the name of an attribute.
 #[tactic(auto, unfolding(crate::specs::Reading::entry_at))]
 fn entry(alloc: Global, name: PackedName, from: &mut Cursor) -> Result<Entry, Refusal<HeaderFault>>
     ensures { Reads (λ entry. entry) result from.new (entry_at name from.old) }
@@ -71,7 +71,7 @@ fn entry(alloc: Global, name: PackedName, from: &mut Cursor) -> Result<Entry, Re
     Ok(Entry { name, attribute })
 }
 
-/// The next attribute under its name, or None at the zero that closes the header.
+/// The next attribute with its name; `None` at the zero that ends the header.
 #[tactic(auto, unfolding(crate::specs::Reading::next_at))]
 fn next(alloc: Global, from: &mut Cursor) -> Result<Option<Entry>, Refusal<HeaderFault>>
     ensures { Reads (λ next. next) result from.new (next_at from.old) }
@@ -86,10 +86,10 @@ fn next(alloc: Global, from: &mut Cursor) -> Result<Option<Entry>, Refusal<Heade
     }
 }
 
-/// The attributes of one header, up to and with the zero that closes it.
+/// Reads the attributes of one header, up to and including the zero that ends it.
 ///
-/// Its faults are Truncated, BadName, BadSize, Twice and Limit of head bytes, the first that is met from the front;
-/// places count from the start of the cursor's bytes. After a refusal the cursor stands anywhere.
+/// Its faults are `Truncated`, `BadName`, `BadSize`, `Twice` and `Limit(HeadBytes)`, the first from the front; offsets count
+/// from the start of the cursor's bytes. After an error the position of the cursor is unspecified.
 ///
 /// File Layout, "Component Three: Header".
 pub fn read_attributes(
@@ -110,7 +110,7 @@ pub fn read_attributes(
 
 /// The attributes of one header.
 ///
-/// Names are looked at last: a second one of a name comes before any fault behind it.
+/// Names are compared last: a repeated name comes before any later fault.
 fn header(alloc: Global, from: &mut Cursor) -> Result<AttributeMap, Refusal<HeaderFault>>
     ensures { Reads (λ map. map) result from.new (header_at from.old) }
 {
@@ -126,7 +126,7 @@ fn header(alloc: Global, from: &mut Cursor) -> Result<AttributeMap, Refusal<Head
     }
 }
 
-/// Reads entries and the places where they begin, up to the closing zero, or to the fault that it answers.
+/// Reads entries and the offsets at which they begin, up to the zero that ends the header or to the fault it returns.
 fn pass(
     alloc: Global,
     from: &mut Cursor,
@@ -137,7 +137,7 @@ fn pass(
     requires no_places { starts.now.items ≡ [] }
     ensures { IfOk result (IsPass from.old from.new entries.new.items starts.new.items) }
 {
-    for _i in 0..LONGEST {
+    for _i in 0..HEAD_LIMIT {
         let start = from.at();
         let entry = match next(alloc, from) {
             Ok(Some(entry)) => entry,

@@ -1,8 +1,8 @@
-//! Whether a name stands twice among many.
+//! Finding the first repeated name of a header.
 //!
-//! Each name makes a number, and the numbers are sorted: where they all differ, so do the names, and each of them was read
-//! once, whatever their order. Only where two numbers are the same is the first entry sought whose name an earlier one
-//! has, in an ordered set. Names that are chosen to make the same number lead to that set and to nothing worse.
+//! The names are hashed and the hashes sorted: where all hashes differ, so do the names. Only where two are equal are the
+//! names themselves put into an ordered set, one after another, until one is there already; so names that are chosen to
+//! collide cost no more than that set.
 
 ghost use Rattle.std.specs.Prelude.{◌≡◌, true, IfOk};
 ghost use Rattle.exr_attributes.specs.Pass.{AreDistinct, AreRising, IsFirstSecond};
@@ -13,7 +13,7 @@ use exr_base::NoMemory;
 use std::alloc::Global;
 use std::collections::BTreeSet;
 
-/// What a digit counts in the number of a name, for each digit behind it: odd, and with bits all over.
+/// The base of the hash of a name: odd, with bits all over.
 const BASE: u64 = 0x9e37_79b9_7f4a_7c15;
 
 /// The first entry whose name an earlier one has.
@@ -26,7 +26,7 @@ pub(crate) fn first_second(alloc: Global, entries: &[Entry]) -> Result<Option<us
     sought(alloc, entries)
 }
 
-/// Whether the names make distinct numbers. It answers true only where the names are distinct.
+/// Whether all hashes differ; true only where the names are distinct.
 fn are_distinct(alloc: Global, entries: &[Entry]) -> Result<bool, NoMemory>
     ensures { IfOk result (λ distinct. distinct ≡ true → AreDistinct entries.now) }
 {
@@ -38,7 +38,7 @@ fn are_distinct(alloc: Global, entries: &[Entry]) -> Result<bool, NoMemory>
     Ok(are_rising(numbers.as_slice()))
 }
 
-/// The number of a name: its bytes as digits, modulo 2^64.
+/// The hash of a name: its bytes as digits of a number, modulo 2^64.
 fn name_number(name: &[u8]) -> u64
     ensures { result ≡ name_number name.now }
 {
@@ -61,7 +61,7 @@ fn are_rising(numbers: &[u64]) -> bool
     true
 }
 
-/// The first entry whose name an earlier one has, one name after the other.
+/// The first entry whose name an earlier one has, by comparing names.
 fn sought(alloc: Global, entries: &[Entry]) -> Result<Option<usize>, NoMemory>
     ensures { IfOk result (IsFirstSecond entries.now) }
 {

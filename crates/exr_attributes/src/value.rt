@@ -1,4 +1,4 @@
-//! The value of an attribute: bytes, which nothing here looks into.
+//! The value of an attribute, as bytes.
 
 ghost use Rattle.std.specs.Prelude.{◌≡◌, ◌<◌, ◌^◌, length, IfOk};
 
@@ -6,7 +6,7 @@ use exr_base::NoMemory;
 use std::alloc::Global;
 use std::marker::Model;
 
-/// The bytes of an attribute's value, fewer than 2^31, without the size that stands before them in the file.
+/// The bytes of an attribute's value, fewer than 2^31, without the size that precedes them in the file.
 ///
 /// File Layout, "Component Three: Header": attribute value.
 #[derive(Drop, Debug)]

@@ -8,7 +8,7 @@ use crate::map::AttributeMap;
 use exr_base::NoMemory;
 use std::alloc::Global;
 
-/// Appends the spelling of a header's attributes, with the zero that closes it. After a refusal `to` is as it was.
+/// Appends a header: its attributes, and the zero that ends it. Where memory runs out `to` is unchanged.
 ///
 /// File Layout, "Component Three: Header".
 pub fn write_attributes(alloc: Global, map: &AttributeMap, to: &mut Vec<u8>) -> Result<(), NoMemory>
@@ -24,7 +24,7 @@ pub fn write_attributes(alloc: Global, map: &AttributeMap, to: &mut Vec<u8>) -> 
     Ok(())
 }
 
-/// Appends the spelling of one attribute under its name.
+/// Appends one attribute with its name.
 fn write_entry(text: &mut Vec<u8>, entry: &Entry) -> Result<(), NoMemory>
     ensures { OnOk result (text.new.items ≡ text.old.items ++ entry_spelling entry.now) }
 {

@@ -1,4 +1,4 @@
-//! A head of given parts, judged as a reader would judge its spelling.
+//! The head of given parts, validated as a reader validates the head of a file.
 
 ghost use Rattle.std.specs.Prelude.{◌≡◌, ◌≤◌, ◌<◌, ◌+◌, ◌^◌, [], false, All, length, sum_by, IfOk};
 ghost use Rattle.exr_base.specs.Refusal.{Gives};
@@ -11,7 +11,7 @@ ghost use Rattle.exr_header.specs.Spells.{AreHeaders};
 
 use crate::head::FileHead;
 use crate::writing::spelling_of;
-use exr_attributes::{AttributeMap, Bound, HeaderFault};
+use exr_attributes::{AttributeMap, Bound, HEAD_LIMIT, HeaderFault};
 use exr_base::Refusal;
 use exr_judge::{Flags, Header, PartKind, chunk_count, judged, typed_kind};
 use std::alloc::Global;
@@ -28,7 +28,7 @@ fn is_kind(kind: PartKind, other: PartKind) -> bool
     }
 }
 
-/// The flags that a writer sets for given parts.
+/// The flags that a writer sets for some parts.
 fn flags_given(multi: bool, given: &[(PartKind, AttributeMap)]) -> Flags
     ensures { result ≡ flags_given multi given.now }
 {
@@ -45,7 +45,7 @@ fn has_deep_data(given: &[(PartKind, AttributeMap)]) -> bool
     given.iter().any(|g| g.0.is_deep())
 }
 
-/// The kind of a given part, which `type` may not contradict.
+/// The kind of a given part; its attribute `type` may not contradict it.
 #[tactic(auto, unfolding(crate::specs::Head::kind_given))]
 fn kind_given(
     flags: Flags,
@@ -65,7 +65,7 @@ fn kind_given(
     Ok(kind)
 }
 
-/// A given part behind earlier ones, which have so many chunks.
+/// The header of a given part that follows the `earlier` ones, which have `chunks` chunks.
 #[tactic(auto, unfolding(crate::specs::Head::part_given))]
 fn part_given(
     alloc: Global,
@@ -88,7 +88,7 @@ fn part_given(
     judged(alloc, flags, earlier, chunks, kind, map)
 }
 
-/// All given parts.
+/// The headers of all given parts.
 fn parts_given(
     alloc: Global,
     flags: Flags,
@@ -115,11 +115,11 @@ fn parts_given(
 }
 
 impl FileHead {
-    /// The head of these parts, at least one, and exactly one without the flag.
+    /// The head of these parts, at least one, and exactly one in a file that is not multi-part.
     ///
-    /// More than 1,024 parts are Limit of parts. Then each part is judged as a reader judges it, with bits 11 and 12
-    /// as a writer sets them; where one of them is set, a `type` that names another kind than the one given is
-    /// BadPartType. Last of all, a spelling of more than 2^24 bytes is Limit of head bytes.
+    /// More than 1,024 parts are `Limit(Parts)`. Then each part is validated as a reader does it, with bits 11 and 12 as a
+    /// writer sets them; where one of them is set, a `type` that names another kind than the given one is `BadPartType`. Last,
+    /// a head of more than 2^24 bytes is `Limit(HeadBytes)` (the order of faults: own).
     #[tactic(auto, unfolding(crate::specs::Head::head_given))]
     pub fn new(
         alloc: Global,
@@ -136,7 +136,7 @@ impl FileHead {
         let flags = flags_given(multi, parts.as_slice());
         let parts = parts_given(alloc, flags, parts)?;
         let bytes = spelling_of(alloc, multi, parts.as_slice())?;
-        if bytes.len() > 1 << 24 {
+        if bytes.len() > HEAD_LIMIT {
             return Err(Refusal::Fault(HeaderFault::Limit(Bound::HeadBytes)));
         }
         Ok(FileHead { multi, parts })

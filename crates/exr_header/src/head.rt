@@ -1,11 +1,11 @@
-//! A head of a file: whether it is for many parts, and their headers.
+//! The head of a file: whether it is multi-part, and the headers of its parts.
 
 ghost use Rattle.std.specs.Prelude.{◌≡◌};
 
 use exr_judge::Header;
 use std::marker::Model;
 
-/// The head of a file: a flag for many parts, and the headers, exactly one without the flag.
+/// The head of a file: whether it is multi-part, and its headers, exactly one where it is not.
 ///
 /// File Layout, "Components One and Two: Magic Number and Version Field" and "Component Three: Header".
 #[derive(Drop, Debug)]
@@ -30,14 +30,14 @@ impl FileHead {
     ghost use Rattle.exr_judge.specs.Picture.{IsPicture};
     ghost use Rattle.exr_header.specs.Spells.{IsHead};
 
-    /// Whether the file has headers for many parts, though it may have one alone.
+    /// Whether the file is a multi-part file, which may have a single part too.
     pub fn multi(&self) -> bool
         ensures { result ≡ self.now.multi }
     {
         self.multi
     }
 
-    /// The headers, in their order.
+    /// The headers in the order of the file.
     pub fn parts(&self) -> &[Header]
         ensures value { result.now ≡ self.now.parts }
         ensures pictures { All IsPicture self.now.parts }

@@ -1,4 +1,4 @@
-//! The head of a file: the headers of its parts, read from bytes and judged, written back, and shown as text. What
+//! The head of a file: the headers of its parts, read from bytes and validated, written back, and shown as text. What
 //! is read is exactly what the bytes spell, or the first fault from the front.
 #![tactic(auto)]
 
@@ -15,8 +15,3 @@ pub use laws::spellings_are_prefix_free;
 pub use reading::read_head;
 pub use show::show_head;
 pub use writing::write_head;
-
-#[cfg(test)]
-mod heads;
-#[cfg(test)]
-mod tests;

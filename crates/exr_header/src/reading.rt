@@ -16,7 +16,7 @@ use exr_base::{Cursor, Refusal};
 use exr_judge::{Flags, Header, PartKind, chunk_count, judged, typed_kind};
 use std::alloc::Global;
 
-/// Whether a version word has a bit, by its weight.
+/// Whether a version word has the bit of a weight.
 fn has_bit(weight: u32, word: u32) -> bool
     requires { 1 ≤ weight }
     ensures { result ≡ has_bit weight word }
@@ -24,7 +24,7 @@ fn has_bit(weight: u32, word: u32) -> bool
     (word / weight) % 2 == 1
 }
 
-/// Whether a version word is one of version 2 with known bits.
+/// Whether a version word has version 2 and known bits alone.
 fn is_version(word: u32) -> bool
     ensures { result ≡ is_version word }
 {
@@ -41,7 +41,7 @@ fn flags_of(word: u32) -> Flags
     }
 }
 
-/// A version word.
+/// Reads the version word.
 #[tactic(auto, unfolding(crate::specs::Head::word_at))]
 fn version_word(from: &mut Cursor) -> Result<u32, Refusal<HeaderFault>>
     ensures { Reads (λ word. word) result from.new (word_at from.old) }
@@ -53,7 +53,7 @@ fn version_word(from: &mut Cursor) -> Result<u32, Refusal<HeaderFault>>
     Ok(word)
 }
 
-/// The version word behind the magic number.
+/// Reads the magic number and the version word.
 #[tactic(auto, unfolding(crate::specs::Head::version_at))]
 fn version(from: &mut Cursor) -> Result<u32, Refusal<HeaderFault>>
     ensures { Reads (λ word. word) result from.new (version_at from.old) }
@@ -80,7 +80,7 @@ fn kind_read(word: u32, part: u32, map: &AttributeMap) -> Result<PartKind, Refus
     }
 }
 
-/// The part of a header behind earlier ones, which have so many chunks.
+/// The header that follows the `earlier` ones, which have `chunks` chunks.
 #[tactic(auto, unfolding(crate::specs::Head::part_read))]
 fn part_read(
     alloc: Global,
@@ -100,7 +100,7 @@ fn part_read(
     judged(alloc, flags_of(word), earlier, chunks, kind, map)
 }
 
-/// What stands behind 1,024 headers: the zero that ends them.
+/// Reads what follows 1,024 headers: the zero that ends them.
 #[tactic(auto, unfolding(crate::specs::Head::last_at))]
 fn last(parts: Vec<Header>, from: &mut Cursor) -> Result<Vec<Header>, Refusal<HeaderFault>>
     ensures exact { Reads (λ parts. parts.items) result from.new (last_at parts.items from.old) }
@@ -113,7 +113,7 @@ fn last(parts: Vec<Header>, from: &mut Cursor) -> Result<Vec<Header>, Refusal<He
     Ok(parts)
 }
 
-/// The headers of many parts, up to and with the zero that ends them.
+/// Reads the headers of a multi-part file, up to and including the zero that ends them.
 fn parts(alloc: Global, word: u32, from: &mut Cursor) -> Result<Vec<Header>, Refusal<HeaderFault>>
     ensures exact { Reads (λ parts. parts.items) result from.new (parts_at 1024 word [] from.old) }
     ensures pictures { IfOk result (λ parts. All IsPicture parts.items) }
@@ -132,7 +132,7 @@ fn parts(alloc: Global, word: u32, from: &mut Cursor) -> Result<Vec<Header>, Ref
     last(parts, from)
 }
 
-/// The headers, of which there is one at least.
+/// The headers, if there is at least one.
 fn some_parts(parts: Vec<Header>) -> Result<Vec<Header>, Refusal<HeaderFault>>
     ensures exact { Gives (λ parts. parts.items) result (some_parts parts.items) }
     ensures same { IfOk result (λ all. all.items ≡ parts.items) }
@@ -146,7 +146,7 @@ fn some_parts(parts: Vec<Header>) -> Result<Vec<Header>, Refusal<HeaderFault>>
     Ok(parts)
 }
 
-/// The one header of a file of one part.
+/// Reads the header of a file that is not multi-part.
 #[tactic(auto, unfolding(crate::specs::Head::single_at))]
 fn single(alloc: Global, word: u32, from: &mut Cursor) -> Result<Vec<Header>, Refusal<HeaderFault>>
     ensures exact { Reads (λ parts. head_from false parts.items) result from.new (single_at word from.old) }
@@ -159,7 +159,7 @@ fn single(alloc: Global, word: u32, from: &mut Cursor) -> Result<Vec<Header>, Re
     Ok(parts)
 }
 
-/// The headers of a file of many parts.
+/// Reads the headers of a multi-part file.
 #[tactic(auto, unfolding(crate::specs::Head::many_at))]
 fn many(alloc: Global, word: u32, from: &mut Cursor) -> Result<Vec<Header>, Refusal<HeaderFault>>
     ensures exact { Reads (λ parts. head_from true parts.items) result from.new (many_at word from.old) }
@@ -169,7 +169,7 @@ fn many(alloc: Global, word: u32, from: &mut Cursor) -> Result<Vec<Header>, Refu
     Ok(parts)
 }
 
-/// The flag for many parts and the headers at the front of some bytes.
+/// Reads whether the file is multi-part, and its headers.
 #[tactic(auto, unfolding(crate::specs::Head::head_at))]
 fn head(alloc: Global, from: &mut Cursor) -> Result<(bool, Vec<Header>), Refusal<HeaderFault>>
     ensures exact { Reads (λ x. head_from x.0 x.1.items) result from.new (head_at from.old) }
@@ -185,7 +185,7 @@ fn head(alloc: Global, from: &mut Cursor) -> Result<(bool, Vec<Header>), Refusal
     }
 }
 
-/// The head at the front of some bytes, and how many bytes it fills.
+/// The head at the front of some bytes, and its length in bytes.
 #[tactic(auto, unfolding(crate::specs::Head::head_of))]
 fn front_head(alloc: Global, bytes: &[u8]) -> Result<(FileHead, usize), Refusal<HeaderFault>>
     ensures { Gives (λ x. (x.0, x.1)) result (head_of bytes.now) }
@@ -195,11 +195,11 @@ fn front_head(alloc: Global, bytes: &[u8]) -> Result<(FileHead, usize), Refusal<
     Ok((FileHead { multi, parts }, from.at()))
 }
 
-/// The head that the bytes begin with, and how many bytes it fills. The slice is the whole input, or its first bytes:
-/// what is read of these, other than that they end too soon, is what is read of the whole, and so is whatever is read
-/// of more than 2^24 bytes.
+/// Reads the head that the bytes begin with, and its length in bytes. The slice is the whole input, or a prefix of it: what
+/// is read of a prefix, other than that it ends too soon, is what is read of the whole, and so is whatever is read of more
+/// than 2^24 bytes.
 ///
-/// The fault is the first from the front; after the closing byte of a header its part is judged.
+/// The fault is the first from the front; a part is validated after the zero that ends its header.
 ///
 /// File Layout, "Components One and Two: Magic Number and Version Field" and "Component Three: Header".
 pub fn read_head(alloc: Global, bytes: &[u8]) -> Result<(FileHead, usize), Refusal<HeaderFault>>

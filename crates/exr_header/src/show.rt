@@ -1,4 +1,4 @@
-//! The text of a head, as the program prints it.
+//! The text of a head, as `exr header` prints it.
 
 ghost use Rattle.std.specs.Prelude.{◌≡◌, ◌<◌, ◌++◌, OnOk, IfOk};
 ghost use Rattle.std.specs.List.{flat_map};
@@ -21,7 +21,7 @@ fn hex_digit(digit: u8) -> u8
     if digit < 10 { digit + 48 } else { digit + 87 }
 }
 
-/// Appends a byte of a name.
+/// Appends a byte of a name, escaped where it is not printable.
 fn put_byte(byte: u8, to: &mut Vec<u8>) -> Result<(), NoMemory>
     ensures { OnOk result (to.new.items ≡ to.old.items ++ escaped_byte byte) }
 {
@@ -162,7 +162,7 @@ fn put_chunks(alloc: Global, header: &Header, to: &mut Vec<u8>) -> Result<(), No
     Ok(())
 }
 
-/// Appends the line of the tiles, where there are some.
+/// Appends the line of the tile description, where there is one.
 fn put_tiles(alloc: Global, tiles: Option<Tiles>, to: &mut Vec<u8>) -> Result<(), NoMemory>
     ensures { OnOk result (to.new.items ≡ to.old.items ++ tiles_line tiles) }
 {

@@ -55,7 +55,7 @@ fn bit_of(set: bool, weight: u32) -> u32
     if set { weight } else { 0 }
 }
 
-/// Whether a kind is that of flat tiles.
+/// Whether a kind is that of tiles that are not deep.
 fn is_tiled_kind(kind: PartKind) -> bool
     ensures { result ≡ is_tiled_kind kind }
 {
@@ -65,7 +65,7 @@ fn is_tiled_kind(kind: PartKind) -> bool
     }
 }
 
-/// Whether one of some parts has flat tiles.
+/// Whether one of some parts has tiles and is not deep.
 fn has_tiles(parts: &[Header]) -> bool
     ensures { result ≡ list_any (λ p. is_tiled_kind p.kind) parts.now }
 {
@@ -97,7 +97,7 @@ fn version_of(multi: bool, parts: &[Header]) -> u32
         + bit_of(multi, 4096)
 }
 
-/// The headers one after the other.
+/// Appends the headers of some parts.
 fn write_parts(alloc: Global, parts: &[Header], to: &mut Vec<u8>) -> Result<(), NoMemory>
     ensures { OnOk result (to.new.items ≡ to.old.items ++ parts_spelling parts.now) }
 {
@@ -107,7 +107,7 @@ fn write_parts(alloc: Global, parts: &[Header], to: &mut Vec<u8>) -> Result<(), 
     Ok(())
 }
 
-/// The spelling of a head of these parts, as a writer puts it.
+/// The bytes of a head of these parts.
 pub(crate) fn spelling_of(alloc: Global, multi: bool, parts: &[Header]) -> Result<Vec<u8>, NoMemory>
     ensures { IfOk result (λ bytes. bytes.items ≡ head_spelling (head_from multi parts.now)) }
 {
@@ -121,11 +121,10 @@ pub(crate) fn spelling_of(alloc: Global, multi: bool, parts: &[Header]) -> Resul
     Ok(to)
 }
 
-/// The spelling of a head, as a writer puts it: at most 2^24 bytes, which are read as this head, whatever follows
-/// them.
+/// Writes a head: at most 2^24 bytes, which are read as this head, whatever follows them.
 ///
-/// Bit 9 is set for one tiled part without the flag, bit 10 where a name of an attribute, a type or a channel has
-/// more than 31 bytes, bit 11 where a part is deep, bit 12 by the flag.
+/// Of the version word bit 9 is set for a single tiled part, bit 10 where the name of an attribute, a type or a channel has
+/// more than 31 bytes, bit 11 where a part is deep, bit 12 in a multi-part file.
 ///
 /// File Layout, "Components One and Two: Magic Number and Version Field" and "Component Three: Header".
 pub fn write_head(alloc: Global, head: &FileHead) -> Result<Vec<u8>, NoMemory>

@@ -4,32 +4,17 @@ use Rattle.std.proofs.Math.Nat.{mul-le-mul}
 use Rattle.std.proofs.lemmas.Int.{ints}
 use Rattle.exr_base.specs.Sampling.{span_of}
 use Rattle.exr_base.specs.Shape.{IsSide}
+use Rattle.exr_base.proofs.Sides.{span_is}
 use Rattle.exr_judge.specs.Picture.{first_end}
-
-abs_pos : (z : ℤ) → pos 0 ≤ℤ z → pos (nat_abs z) ≡ z
-abs_pos (pos n) h = refl
-abs_pos (negsuc n) h = absurd (omega (arith, ints, h))
-
-span_is : (from to : ℤ) → from ≤ℤ to → pos (span_of from to) ≡ (to -ℤ from) +ℤ pos 1
-span_is from to h = abs_pos ((to -ℤ from) +ℤ pos 1) (omega (arith, ints, h))
-
-pub side_within : (from to : ℤ) (s : ℕ) → from ≤ℤ to → neg_ℤ (pos (2 ^ 30)) ≤ℤ from → to ≤ℤ pos (2 ^ 30) → s ≡ span_of from to → s ≤ 2 ^ 20 → IsSide from to
-side_within from to s ordered low high is few = record {
-  low = low;
-  high = omega (arith, ints, ordered, high);
-  ends = omega (arith, ints, ordered);
-  end_high = high;
-  few = omega (arith, is, few);
-}
 
 -- the first piece of a side ends on the side
 pub end_within : (from to : ℤ) (most : ℕ) (r : ℤ) → from ≤ℤ to → IsSide from to → 1 ≤ most → r ≡ first_end from to most → IsSide from r
 end_within from to most r ordered side some is =
-    let span = span_is from to ordered in
+    let span = span_is from to (omega (arith, ints, ordered)) in
     let m = min (span_of from to) most - 1 in
     let within : m + 1 ≤ span_of from to = omega (arith, ints, span, ordered, some) in
     let few = side.few in
-    let r_span : pos (span_of from r) ≡ (r -ℤ from) +ℤ pos 1 = span_is from r (omega (arith, ints, is)) in
+    let r_span : pos (span_of from r) ≡ (r -ℤ from) +ℤ pos 1 = span_is from r (omega (arith, ints, is, within, some)) in
     record {
       low = side.low;
       high = side.high;

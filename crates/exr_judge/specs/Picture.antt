@@ -1,8 +1,10 @@
 -- What a part's windows, tiles and chunks are like. File Layout, "Chunk Layout"; Technical Introduction, "Tiles".
-use Rattle.std.specs.Prelude.{◌==◌, ◌≤◌, ◌≤ℤ◌, ◌+◌, ◌-◌, ◌*◌, ◌/◌, ◌%◌, ◌^◌, ◌&&◌, ◌||◌, min, nat_le, int_lt, int_le, ℕ, ℤ, pos, neg_ℤ, ◌+ℤ◌, Bool, List, slice_index, Option, Some, None, if◌then◌else◌}
+use Rattle.std.specs.Prelude.{◌==◌, ◌≤◌, ◌≤ℤ◌, ◌+◌, ◌-◌, ◌*◌, ◌/◌, ◌%◌, ◌^◌, ◌&&◌, ◌||◌, min, nat_le, int_le, ℕ, ℤ, pos, neg_ℤ, ◌+ℤ◌, Bool, List, slice_index, Option, Some, None, if◌then◌else◌}
 use Rattle.exr_base.specs.declared.shape.Box2i.{Box2i}
 use Rattle.exr_base.specs.declared.channel.Channel.{Channel}
+pub use Rattle.exr_base.specs.Boxes.{is_empty}
 use Rattle.exr_base.specs.Method.{lines_of}
+pub use Rattle.exr_base.specs.Sampling.{pieces}
 use Rattle.exr_base.specs.Sampling.{is_multiple, span_of}
 use Rattle.exr_base.specs.Shape.{width_of, height_of, raw_size_of, IsShape}
 use Rattle.exr_judge.specs.declared.kind.Tiles.{Tiles}
@@ -13,9 +15,6 @@ use Rattle.exr_judge.specs.Words.{word_of, int_of}
 -- the window of a value of type box2i
 abbrev pub box_of : List ℕ → Box2i
 box_of v = record { x0 = int_of v 0; y0 = int_of v 4; x1 = int_of v 8; y1 = int_of v 12 }
-
-abbrev pub is_empty : Box2i → Bool
-is_empty w = int_lt w.x1 w.x0 || int_lt w.y1 w.y0
 
 -- within 2^30 of 0
 abbrev pub is_coordinate : ℤ → Bool
@@ -60,10 +59,6 @@ is_aligned w c = is_side_aligned w.x0 w.x1 c.xs && is_side_aligned w.y0 w.y1 c.y
 -- a channel's samplings fit the kind of part and the window
 abbrev pub is_sampled_well : Header → Channel → Bool
 is_sampled_well h c = if is_tiled h.kind || is_deep h.kind then is_everywhere c else is_aligned h.window c
-
--- how many pieces of some size cover a length
-abbrev pub pieces : ℕ → ℕ → ℕ
-pieces size length = (length + size - 1) / size
 
 -- the columns and the lines of a chunk that is not cut at the data window's edge
 abbrev pub columns_of : ℕ → Option Tiles → ℕ

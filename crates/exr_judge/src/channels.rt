@@ -1,4 +1,4 @@
-//! The channels of a part, and the reading of a channel list.
+//! The channels of a part, and parsing a channel list.
 
 ghost use Rattle.exr_base.specs.Shape.{IsSampled};
 ghost use Rattle.std.specs.Prelude.{◌≡◌, ◌==◌, All, ◌≤◌, ◌<◌, length, position, IfOk, IfSome, OnSome};
@@ -12,7 +12,7 @@ use std::alloc::Global;
 use std::cmp::Ordering;
 use std::marker::Model;
 
-/// The channels of a part, in rising order of their names.
+/// The channels of a part, in increasing order of their names.
 ///
 /// File Layout, "Predefined Attribute Types": chlist.
 #[derive(Drop, Debug)]
@@ -33,7 +33,7 @@ impl Model for Channels {
 }
 
 impl Channels {
-    /// All of them.
+    /// The channels.
     pub fn as_slice(&self) -> &[Channel]
         ensures value { result.now ≡ self.now }
         ensures sampled { All IsSampled self.now }
@@ -42,7 +42,7 @@ impl Channels {
     }
 }
 
-/// The kind of samples of a number.
+/// The pixel type with a number.
 fn kind(number: u32) -> Option<Kind>
     ensures { result ≡ kind_numbered number }
 {
@@ -54,7 +54,7 @@ fn kind(number: u32) -> Option<Kind>
     }
 }
 
-/// The channel of a name that the bytes behind it say.
+/// The channel with a name and the 16 bytes that follow the name.
 #[tactic(auto, unfolding(crate::specs::Channels::channel_named))]
 fn channel_named(name: Name, fields: &[u8]) -> Option<Channel>
     ensures exact { result ≡ channel_named name fields.now }
@@ -80,14 +80,14 @@ fn channel_named(name: Name, fields: &[u8]) -> Option<Channel>
     })
 }
 
-/// Whether an int of this word is at least 1.
+/// Whether a word is an int of at least 1.
 fn is_sampling(word: u32) -> bool
     ensures { result ≡ is_sampling word }
 {
     word >= 1 && word < 1 << 31
 }
 
-/// The channel at the front of a list, and what stands behind it.
+/// The first channel of a list, and the rest of the list.
 #[tactic(auto, unfolding(crate::specs::Channels::channel_at))]
 fn channel(bytes: &[u8]) -> Option<(Channel, &[u8])>
     ensures exact { option_map (λ next. (next.0, next.1.now)) result ≡ channel_at bytes.now }
@@ -109,17 +109,17 @@ fn last_name(channels: &[Channel]) -> &[u8]
     channels[channels.len() - 1].name.bytes()
 }
 
-/// What stands next in a channel list.
+/// The next item of a channel list.
 enum Next<'a> {
-    /// A channel, and what stands behind it.
+    /// A channel, and the rest of the list.
     Channel(Channel, &'a [u8]),
-    /// The zero byte that closes and ends the list.
+    /// The zero byte that ends the list, as its last byte.
     Closed,
     /// Neither.
     Broken,
 }
 
-/// The next channel, whose name has to be above another.
+/// The next channel, if its name is greater than the one before.
 #[tactic(auto, unfolding(crate::specs::Channels::next_channel))]
 fn next_channel<'a>(above: &[u8], bytes: &'a [u8]) -> Next<'a>
     ensures exact { next_of result ≡ next_channel above.now bytes.now }
@@ -138,7 +138,7 @@ fn next_channel<'a>(above: &[u8], bytes: &'a [u8]) -> Next<'a>
     }
 }
 
-/// A channel that was read, if its name is above another.
+/// A channel that was read, if its name is greater than the one before.
 fn next_above<'a>(above: &[u8], next: Option<(Channel, &'a [u8])>) -> Next<'a>
     requires { IfSome next (λ x. IsSampled x.0) }
     ensures exact { next_of result
@@ -157,7 +157,7 @@ fn next_above<'a>(above: &[u8], next: Option<(Channel, &'a [u8])>) -> Next<'a>
     }
 }
 
-/// The channel list that a value is; within, None where it is none.
+/// Parses a `chlist` value; `None` if it is malformed.
 pub(crate) fn channels_of(alloc: Global, value: &[u8]) -> Result<Option<Channels>, NoMemory>
     ensures { IfOk result (λ list. list ≡ channels_of value.now) }
 {

@@ -1,19 +1,19 @@
-//! The tests of what a header says: by itself, and among the headers before it.
+//! Validating a header: by itself, and against the headers before it.
 
 ghost use Rattle.std.specs.Prelude.{◌≡◌, ◌≤◌, ◌<◌, ◌≤ℤ◌, ◌+◌, ◌^◌, length, sum_by, not, IfSome, OnOk, IfOk};
 ghost use Rattle.std.specs.List.{position_from, list_any};
 ghost use Rattle.exr_base.specs.Refusal.{Gives};
 ghost use Rattle.exr_base.specs.Shape.{IsSide, IsRegion, IsSampled, width_of, height_of};
-ghost use Rattle.exr_judge.specs.Picture.{is_everywhere, is_side_aligned, is_aligned, is_sampled_well, pieces, chunk_width, chunk_height, chunk_count_of, first_end, first_region, raw_chunk_of, IsPicture};
+ghost use Rattle.exr_judge.specs.Picture.{is_everywhere, is_side_aligned, is_aligned, is_sampled_well, chunk_width, chunk_height, chunk_count_of, first_end, first_region, raw_chunk_of, IsPicture};
 ghost use Rattle.exr_judge.specs.Judging.{samplings_judged, version_judged, sizes_judged, count_judged, is_called, name_judged, header_judged, judged};
 
 use crate::fields::{all_fields, is_there, value};
 use crate::header::Header;
 use crate::kind::{Flags, PartKind};
-use crate::picture::{picture_of, span};
+use crate::picture::picture_of;
 use crate::words::{int, word};
 use exr_attributes::{AttributeMap, Bound, Field, HeaderFault};
-use exr_base::{Box2i, Channel, Refusal, Shape};
+use exr_base::{Box2i, Channel, Refusal, Shape, pieces, span};
 use std::alloc::Global;
 
 /// Whether a channel has samples at each pixel.
@@ -25,11 +25,11 @@ fn is_everywhere(channel: &Channel) -> bool
 
 /// Whether one side of a data window begins at a sample and has whole multiples of the sampling.
 fn is_side_aligned(from: i32, to: i32, sampling: u32) -> bool
-    requires ordered { from ≤ℤ to }
+    requires side { IsSide from to }
     requires sampled { 1 ≤ sampling }
     ensures { result ≡ is_side_aligned from to sampling }
 {
-    from.unsigned_abs() % sampling == 0 && span(from, to) % u64::from(sampling) == 0
+    from.unsigned_abs() % sampling == 0 && span(from, to) % sampling == 0
 }
 
 /// Whether the samplings of a channel fit the kind of part and the data window.
@@ -61,7 +61,7 @@ fn badly_sampled(header: &Header) -> Option<usize>
     None
 }
 
-/// Tests the samplings of all channels.
+/// Validates the samplings of all channels.
 #[tactic(auto, unfolding(crate::specs::Judging::samplings_judged))]
 fn samplings_judged(part: u32, header: &Header) -> Result<(), Refusal<HeaderFault>>
     requires { IsPicture header.now }
@@ -76,7 +76,7 @@ fn samplings_judged(part: u32, header: &Header) -> Result<(), Refusal<HeaderFaul
     }
 }
 
-/// Tests the version of a deep part.
+/// Validates the version of a deep part.
 #[tactic(auto, unfolding(crate::specs::Judging::version_judged))]
 fn version_judged(part: u32, header: &Header) -> Result<(), Refusal<HeaderFault>>
     ensures { Gives (λ unit. unit) result (version_judged part header.now) }
@@ -94,19 +94,8 @@ fn version_judged(part: u32, header: &Header) -> Result<(), Refusal<HeaderFault>
     }))
 }
 
-/// How many pieces of a size cover a length.
-fn pieces(size: u64, length: u64) -> u64
-    requires some { 1 ≤ size }
-    requires small { size ≤ 2 ^ 30 }
-    requires short { length ≤ 2 ^ 30 }
-    ensures exact { result ≡ pieces size length }
-    ensures few { result < 2 ^ 31 }
-{
-    (length + size - 1) / size
-}
-
 /// The columns of the data window.
-fn width(header: &Header) -> u64
+fn width(header: &Header) -> u32
     requires { IsPicture header.now }
     ensures exact { result ≡ width_of header.now.window }
     ensures some { 1 ≤ result }
@@ -116,7 +105,7 @@ fn width(header: &Header) -> u64
 }
 
 /// The lines of the data window.
-fn height(header: &Header) -> u64
+fn height(header: &Header) -> u32
     requires { IsPicture header.now }
     ensures exact { result ≡ height_of header.now.window }
     ensures some { 1 ≤ result }
@@ -126,28 +115,28 @@ fn height(header: &Header) -> u64
 }
 
 /// The columns of a chunk that is not cut.
-fn columns(header: &Header) -> u64
+fn columns(header: &Header) -> u32
     requires { IsPicture header.now }
     ensures exact { result ≡ chunk_width header.now }
     ensures some { 1 ≤ result }
     ensures small { result ≤ 2 ^ 30 }
 {
     match header.tiles {
-        Some(tiles) => u64::from(tiles.xsize),
+        Some(tiles) => tiles.xsize,
         None => width(header),
     }
 }
 
 /// The lines of a chunk that is not cut.
-fn rows(header: &Header) -> u64
+fn rows(header: &Header) -> u32
     requires { IsPicture header.now }
     ensures exact { result ≡ chunk_height header.now }
     ensures some { 1 ≤ result }
     ensures small { result ≤ 2 ^ 30 }
 {
     match header.tiles {
-        Some(tiles) => u64::from(tiles.ysize),
-        None => u64::from(header.method.lines()),
+        Some(tiles) => tiles.ysize,
+        None => header.method.lines(),
     }
 }
 
@@ -160,11 +149,11 @@ pub fn chunk_count(header: &Header) -> u64
 {
     let across = pieces(columns(header), width(header));
     let down = pieces(rows(header), height(header));
-    across * down
+    u64::from(across) * u64::from(down)
 }
 
 /// Where the first chunk ends on one side.
-fn first_end(from: i32, to: i32, most: u64) -> i32
+fn first_end(from: i32, to: i32, most: u32) -> i32
     requires ordered { from ≤ℤ to }
     requires side { IsSide from to }
     requires some { 1 ≤ most }
@@ -174,7 +163,7 @@ fn first_end(from: i32, to: i32, most: u64) -> i32
     from + (span(from, to).min(most) - 1) as i32
 }
 
-/// The raw bytes of the first chunk, of a deep one those of its count table.
+/// The raw bytes of the first chunk; of a deep one, of its sample count table.
 #[tactic(auto, unfolding(crate::specs::Picture::raw_chunk_of))]
 fn raw_chunk(header: &Header) -> u64
     requires { IsPicture header.now }
@@ -183,7 +172,7 @@ fn raw_chunk(header: &Header) -> u64
     if header.kind.is_deep() {
         let across = width(header).min(columns(header));
         let down = height(header).min(rows(header));
-        return 4 * (across * down);
+        return 4 * (u64::from(across) * u64::from(down));
     }
     let shape = Shape {
         channels: header.channels.as_slice(),
@@ -207,7 +196,7 @@ fn first_region(header: &Header) -> Box2i
     }
 }
 
-/// Tests the number of chunks of all parts so far, of which the earlier ones have `chunks`, and the size of one.
+/// Validates the number of chunks of all parts so far, of which the earlier ones have `chunks`, and the raw size of one.
 #[tactic(auto, unfolding(crate::specs::Judging::sizes_judged))]
 fn sizes_judged(
     earlier: &[Header],
@@ -229,7 +218,7 @@ fn sizes_judged(
     Ok(())
 }
 
-/// Tests the number of chunks that a header says, in the files in which it counts.
+/// Validates the attribute `chunkCount`, in multi-part and deep files.
 #[tactic(auto, unfolding(crate::specs::Judging::count_judged))]
 fn count_judged(flags: Flags, part: u32, header: &Header) -> Result<(), Refusal<HeaderFault>>
     requires picture { IsPicture header.now }
@@ -251,7 +240,7 @@ fn count_judged(flags: Flags, part: u32, header: &Header) -> Result<(), Refusal<
     }))
 }
 
-/// Whether one of some headers has a name of a part.
+/// Whether one of some headers has a part name.
 fn is_called(name: &[u8], headers: &[Header]) -> bool
     ensures { result ≡ list_any (is_called name.now) headers.now }
 {
@@ -263,7 +252,7 @@ fn is_called(name: &[u8], headers: &[Header]) -> bool
     false
 }
 
-/// Tests the name of a part against the earlier ones.
+/// Validates the name of a part against the earlier ones.
 #[tactic(auto, unfolding(crate::specs::Judging::name_judged))]
 fn name_judged(
     flags: Flags,
@@ -281,7 +270,7 @@ fn name_judged(
     }))
 }
 
-/// All these tests, each before the next.
+/// Validates a header, in this order.
 #[tactic(auto, unfolding(crate::specs::Judging::header_judged))]
 fn header_judged(
     flags: Flags,
@@ -304,7 +293,13 @@ fn header_judged(
     name_judged(flags, earlier, header)
 }
 
-/// The header of the part behind the earlier ones, which have so many chunks.
+/// The header of the part that follows the `earlier` ones, which have `chunks` chunks, or its first fault (the order of
+/// faults: own): first the attributes that are required of its kind, each with its type and size, then their values, then
+/// the samplings, the version of a deep part, the numbers of chunks and of bytes of one, `chunkCount`, and the name of the
+/// part.
+///
+/// File Layout, "Header Attributes (All Files)", "Header Attributes for Tile Parts" and "Header Attributes for
+/// Multi-Part and Deep Data Files".
 #[tactic(auto, unfolding(crate::specs::Judging::judged))]
 pub fn judged(
     alloc: Global,

@@ -1,4 +1,4 @@
-//! The judged attributes: whether they are there, with their types and sizes.
+//! The required attributes: whether they are present, with the type and size of their name.
 
 ghost use Rattle.std.specs.Prelude.{◌≡◌};
 ghost use Rattle.exr_base.specs.Refusal.{Gives};
@@ -8,7 +8,7 @@ use crate::kind::{Flags, PartKind};
 use exr_attributes::{Attribute, AttributeMap, Field, HeaderFault};
 use exr_base::Refusal;
 
-/// The name of a judged attribute.
+/// The name of a required attribute.
 fn name_of(field: Field) -> &'static [u8]
     ensures { result.now ≡ name_of_field field }
 {
@@ -46,7 +46,7 @@ fn type_of(field: Field) -> &'static [u8]
     }
 }
 
-/// The bytes of its value, where the type says them.
+/// The size of its value, where its type has one.
 fn size_of(field: Field) -> Option<usize>
     ensures { result ≡ size_of_field field }
 {
@@ -61,7 +61,7 @@ fn size_of(field: Field) -> Option<usize>
     }
 }
 
-/// Whether a value of a field may have so many bytes.
+/// Whether a value of a field may have `len` bytes.
 fn fits(field: Field, len: usize) -> bool
     ensures { result ≡ fits_size (size_of_field field) len }
 {
@@ -71,7 +71,7 @@ fn fits(field: Field, len: usize) -> bool
     }
 }
 
-/// The value of a field, empty where it is not there.
+/// The value of a field, empty where it is missing.
 pub(crate) fn value<'a>(field: Field, map: &'a AttributeMap) -> &'a [u8]
     ensures { result.now ≡ value_of field map.now }
 {
@@ -81,7 +81,7 @@ pub(crate) fn value<'a>(field: Field, map: &'a AttributeMap) -> &'a [u8]
     }
 }
 
-/// Whether a field's attribute is there.
+/// Whether a field's attribute is present.
 pub(crate) fn is_there(field: Field, map: &AttributeMap) -> bool
     ensures { result ≡ is_there field map.now }
 {
@@ -107,7 +107,7 @@ fn typed<'a>(
     Ok(value)
 }
 
-/// The value of a needed attribute.
+/// The value of a required attribute.
 #[tactic(auto, unfolding(crate::specs::Fields::needed_at))]
 pub(crate) fn needed<'a>(
     part: u32,
@@ -137,7 +137,7 @@ fn optional<'a>(
     }
 }
 
-/// The first four that every part needs.
+/// Validates the first four that every part needs.
 #[tactic(auto, unfolding(crate::specs::Fields::first_fields))]
 fn first_fields<'a>(part: u32, map: &'a AttributeMap) -> Result<&'a [u8], Refusal<HeaderFault>>
     ensures { Gives (λ value. value.now) result (first_fields part map.now) }
@@ -148,7 +148,7 @@ fn first_fields<'a>(part: u32, map: &'a AttributeMap) -> Result<&'a [u8], Refusa
     needed(part, Field::DisplayWindow, map)
 }
 
-/// The other four.
+/// Validates the other four.
 #[tactic(auto, unfolding(crate::specs::Fields::other_fields))]
 fn other_fields<'a>(part: u32, map: &'a AttributeMap) -> Result<&'a [u8], Refusal<HeaderFault>>
     ensures { Gives (λ value. value.now) result (other_fields part map.now) }
@@ -159,7 +159,7 @@ fn other_fields<'a>(part: u32, map: &'a AttributeMap) -> Result<&'a [u8], Refusa
     needed(part, Field::ScreenWindowWidth, map)
 }
 
-/// What files of many parts and deep files have beside.
+/// Validates those of multi-part files and of deep files.
 #[tactic(auto, unfolding(crate::specs::Fields::file_fields))]
 fn file_fields<'a>(
     flags: Flags,
@@ -179,7 +179,7 @@ fn file_fields<'a>(
     }
 }
 
-/// Tests all judged attributes of a part for being there, their types and their sizes, each before the next.
+/// Validates that the required attributes of a part are present, with their types and sizes, in this order.
 #[tactic(auto, unfolding(crate::specs::Fields::all_fields))]
 pub(crate) fn all_fields<'a>(
     flags: Flags,

@@ -1,4 +1,4 @@
-//! A header: its attributes, and what the judged ones say.
+//! The header of a part: its attributes, and the values of those that are required.
 
 ghost use Rattle.std.specs.Prelude.{◌≡◌};
 ghost use Rattle.std.specs.Option.{option_copied};
@@ -9,7 +9,7 @@ use crate::kind::{LineOrder, PartKind, Tiles};
 use exr_attributes::AttributeMap;
 use exr_base::{Box2i, Channel, Method};
 
-/// The header of a part. What it says is what its attributes say.
+/// The header of a part. Its kind, channels, windows and tiles are the values of its attributes.
 ///
 /// File Layout, "Header Attributes (All Files)".
 #[derive(Drop, Debug)]
@@ -24,7 +24,7 @@ pub struct Header {
 }
 
 impl Header {
-    /// All attributes, the judged ones among them, in their order.
+    /// All attributes in the order of the file, the required ones among them.
     pub fn attributes(&self) -> &AttributeMap
         ensures { result.now ≡ self.now.attributes }
     {
@@ -38,14 +38,14 @@ impl Header {
         self.kind
     }
 
-    /// The channels, in rising order of their names, at most 1,024.
+    /// The channels in increasing order of their names, at most 1,024.
     pub fn channels(&self) -> &[Channel]
         ensures { result.now ≡ self.now.channels }
     {
         self.channels.as_slice()
     }
 
-    /// The method of compression.
+    /// The compression method.
     pub fn method(&self) -> Method
         ensures { result ≡ self.now.method }
     {
@@ -66,13 +66,15 @@ impl Header {
         self.order
     }
 
-    /// The tiles; None exactly in scan lines.
+    /// The tile description; `None` exactly in a part of scan lines.
     pub fn tiles(&self) -> Option<Tiles>
         ensures { result ≡ self.now.tiles }
     {
         self.tiles
     }
-    /// The value of the attribute `name` of type `string`; None exactly where there is none.
+
+    /// The value of the attribute `name` of type `string`; `None` exactly where there is none (a `name` of another type is
+    /// no name: own).
     pub fn part_name(&self) -> Option<&[u8]>
         ensures { option_copied result ≡ part_name_of self.now.attributes }
     {

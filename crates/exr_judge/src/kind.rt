@@ -1,9 +1,9 @@
-//! Kinds of parts, orders of lines, and tiles.
+//! Kinds of parts, line orders, and tile descriptions.
 
 ghost use Rattle.std.specs.Prelude.{◌≡◌};
 ghost use Rattle.exr_judge.specs.Kind.{is_tiled, is_deep, kind_named};
 
-/// The kind of a part, which decides how its chunks are laid out.
+/// The kind of a part, which decides the layout of its chunks.
 ///
 /// File Layout, "Header Attributes for Multi-Part and Deep Data Files": type.
 #[derive(Clone, Copy, Debug, PartialEq, Eq)]
@@ -12,9 +12,9 @@ pub enum PartKind {
     Scan,
     /// Tiles.
     Tiled,
-    /// Blocks of scan lines with a number of samples at each pixel.
+    /// Blocks of scan lines with any number of samples at each pixel.
     DeepScan,
-    /// Tiles with a number of samples at each pixel.
+    /// Tiles with any number of samples at each pixel.
     DeepTiled,
 }
 
@@ -29,7 +29,7 @@ pub enum LineOrder {
     Random,
 }
 
-/// The tiles of a part: their sides in pixels, how many levels there are, and how sides of levels are rounded.
+/// The tile description of a part: the sides of a tile in pixels, the level mode, and the rounding of levels.
 ///
 /// File Layout, "Predefined Attribute Types": tiledesc.
 #[derive(Clone, Copy, Debug, PartialEq, Eq)]
@@ -42,19 +42,19 @@ pub struct Tiles {
     pub rounding: u8,
 }
 
-/// The bits of a version word that make the attribute `type` say the kind of each part.
+/// The bits of a version word in whose presence the attribute `type` gives the kind of each part.
 ///
 /// File Layout, "Components One and Two: Magic Number and Version Field": bits 11 and 12.
 #[derive(Clone, Copy, Debug, PartialEq, Eq)]
 pub struct Flags {
-    /// The file has headers for many parts.
+    /// The file is a multi-part file.
     pub multi: bool,
     /// The file has deep data.
     pub deep: bool,
 }
 
 impl PartKind {
-    /// Whether the part has tiles.
+    /// Whether the part is tiled.
     pub fn is_tiled(self) -> bool
         ensures { result ≡ is_tiled self }
     {
@@ -64,7 +64,7 @@ impl PartKind {
         }
     }
 
-    /// Whether the part has a number of samples at each pixel.
+    /// Whether the part is deep: it has any number of samples at each pixel.
     pub fn is_deep(self) -> bool
         ensures { result ≡ is_deep self }
     {
@@ -74,7 +74,7 @@ impl PartKind {
         }
     }
 
-    /// The kind that the text of `type` names; None exactly where it names none.
+    /// The kind that a value of `type` names; `None` exactly where it names none.
     pub fn named(text: &[u8]) -> Option<PartKind>
         ensures { result ≡ kind_named text.now }
     {

@@ -1,5 +1,5 @@
-//! Judging the header of a part: from its attributes to what they say, its kind, channels, windows and tiles, or the first
-//! fault in the stated order.
+//! Validating the header of a part: from its attributes to its kind, channels, windows and tiles, or the first fault in the
+//! stated order.
 #![tactic(auto)]
 
 mod channels;
@@ -15,6 +15,3 @@ pub use checks::{chunk_count, judged};
 pub use header::Header;
 pub use kind::{Flags, LineOrder, PartKind, Tiles};
 pub use picture::typed_kind;
-
-#[cfg(test)]
-mod tests;

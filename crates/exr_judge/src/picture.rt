@@ -1,10 +1,9 @@
-//! From the values of the judged attributes to what they say.
+//! What the values of the required attributes mean.
 
 ghost use Rattle.std.specs.Prelude.{◌≡◌, ◌&&◌, ◌≤◌, ◌≤ℤ◌, All, length, IfOk};
 ghost use Rattle.std.specs.Bool.{OnTrue};
 ghost use Rattle.exr_base.specs.Refusal.{Gives};
 ghost use Rattle.exr_base.specs.Shape.{IsRegion, IsSampled};
-ghost use Rattle.exr_base.specs.Sampling.{span_of};
 ghost use Rattle.exr_judge.specs.Picture.{box_of, is_coordinate, AreCoordinates, tiles_of, is_tile_side, is_tiles, AreTiles, IsPicture};
 ghost use Rattle.exr_judge.specs.Judging.{typed_kind, channels_judged, method_judged, order_judged, window_judged, tiles_judged, picture_of};
 
@@ -14,7 +13,7 @@ use crate::header::Header;
 use crate::kind::{LineOrder, PartKind, Tiles};
 use crate::words::{byte, int, word};
 use exr_attributes::{AttributeMap, Bound, Field, HeaderFault};
-use exr_base::{Box2i, Method, Refusal};
+use exr_base::{Box2i, Method, Refusal, span};
 use std::alloc::Global;
 
 /// The kind that the attribute `type` names.
@@ -29,7 +28,7 @@ pub fn typed_kind(part: u32, map: &AttributeMap) -> Result<PartKind, Refusal<Hea
     }
 }
 
-/// The channels of a channel list.
+/// Validates a channel list.
 #[tactic(auto, unfolding(crate::specs::Judging::channels_judged))]
 fn channels_judged(alloc: Global, part: u32, list: &[u8]) -> Result<Channels, Refusal<HeaderFault>>
     ensures exact { Gives (λ channels. channels) result (channels_judged part list.now) }
@@ -45,7 +44,7 @@ fn channels_judged(alloc: Global, part: u32, list: &[u8]) -> Result<Channels, Re
     Ok(channels)
 }
 
-/// The method of a number.
+/// The compression method with a number.
 #[tactic(auto, unfolding(crate::specs::Judging::method_judged))]
 fn method_judged(part: u32, kind: PartKind, number: u8) -> Result<Method, Refusal<HeaderFault>>
     ensures { Gives (λ method. method) result (method_judged part kind number) }
@@ -60,7 +59,7 @@ fn method_judged(part: u32, kind: PartKind, number: u8) -> Result<Method, Refusa
     }
 }
 
-/// The line order of a number.
+/// The line order with a number.
 #[tactic(auto, unfolding(crate::specs::Judging::order_judged))]
 fn order_judged(part: u32, kind: PartKind, number: u8) -> Result<LineOrder, Refusal<HeaderFault>>
     ensures { Gives (λ order. order) result (order_judged part kind number) }
@@ -77,7 +76,7 @@ fn order_judged(part: u32, kind: PartKind, number: u8) -> Result<LineOrder, Refu
     Err(Refusal::Fault(HeaderFault::BadLineOrder { part, number }))
 }
 
-/// The window of a value.
+/// The box that a value spells.
 fn box_of(value: &[u8]) -> Box2i
     ensures { result ≡ box_of value.now }
 {
@@ -89,7 +88,7 @@ fn box_of(value: &[u8]) -> Box2i
     }
 }
 
-/// Whether two places are within 2^30 of 0.
+/// Whether two coordinates are within 2^30 of 0.
 fn are_coordinates(x: i32, y: i32) -> bool
     ensures exact { result ≡ (is_coordinate x && is_coordinate y) }
     ensures within { OnTrue result (AreCoordinates x y) }
@@ -97,15 +96,7 @@ fn are_coordinates(x: i32, y: i32) -> bool
     x >= -(1 << 30) && x <= 1 << 30 && y >= -(1 << 30) && y <= 1 << 30
 }
 
-/// The places from one to another, both included.
-pub(crate) fn span(from: i32, to: i32) -> u64
-    requires { from ≤ℤ to }
-    ensures { result ≡ span_of from to }
-{
-    (i64::from(to) - i64::from(from) + 1).unsigned_abs()
-}
-
-/// The data window, if it is one.
+/// Validates a data window.
 #[tactic(auto, unfolding(crate::specs::Judging::window_judged))]
 fn window_judged(part: u32, window: Box2i) -> Result<Box2i, Refusal<HeaderFault>>
     ensures exact { Gives (λ window. window) result (window_judged part window) }
@@ -125,7 +116,7 @@ fn window_judged(part: u32, window: Box2i) -> Result<Box2i, Refusal<HeaderFault>
     Ok(window)
 }
 
-/// The tiles of a value.
+/// The tile description that a value spells.
 fn tiles_of(value: &[u8]) -> Tiles
     ensures { result ≡ tiles_of value.now }
 {
@@ -145,14 +136,14 @@ fn is_tile_side(side: u32) -> bool
     side >= 1 && side <= 1 << 30
 }
 
-/// Whether a tile description is one.
+/// Whether the fields of a tile description are in range.
 fn is_tiles(tiles: Tiles) -> bool
     ensures { result ≡ is_tiles tiles }
 {
     is_tile_side(tiles.xsize) && is_tile_side(tiles.ysize) && tiles.mode <= 2 && tiles.rounding <= 1
 }
 
-/// The tiles of a part that has some.
+/// Validates the tile description of a tiled part.
 #[tactic(auto, unfolding(crate::specs::Judging::tiles_judged))]
 fn tiles_judged(
     part: u32,
@@ -174,7 +165,7 @@ fn tiles_judged(
     Ok(Some(tiles))
 }
 
-/// What the judged attributes say.
+/// The header with these attributes.
 #[tactic(auto, unfolding(crate::specs::Judging::picture_of))]
 pub(crate) fn picture_of(
     alloc: Global,

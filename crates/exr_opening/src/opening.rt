@@ -1,53 +1,51 @@
-//! The head of a file, read from a source in pieces that grow twofold, so that little more is read than the head.
+//! Reading the head of a file from a source, in pieces of doubling size, so that little more is read than the head.
 
-ghost use Rattle.std.specs.Prelude.{◌≡◌, ◌+◌, ◌≤◌, ◌^◌, ◌≢◌, ◌<◌, min, ℕ, List, false, IsTrue, IfOk, IfSome, None, length, take, drop};
+ghost use Rattle.std.specs.Prelude.{◌≡◌, ◌+◌, ◌≤◌, ◌^◌, ◌≢◌, ◌<◌, min, ℕ, List, false, IsTrue, IfOk, IfErr, IfSome, None, length, take, drop};
 ghost use Rattle.exr_outside.specs.Source.{IsSameSource};
 ghost use Rattle.exr_outside.specs.Count.{Rose, HasFaultCause};
 ghost use Rattle.exr_opening.specs.Opening.{Opens, Finds, FindsOrWants, IsFront, OnlyReads, OwesRead, is_end};
 
-use exr_attributes::HeaderFault;
+use exr_attributes::{HEAD_LIMIT, HeaderFault};
 use exr_base::{Failed, Refusal};
 use exr_header::{FileHead, read_head};
 use exr_outside::{Source, read_full};
 use std::alloc::Global;
 use thiserror::Error;
 
-/// The bytes of the first piece.
+/// The size of the first piece.
 const FIRST: usize = 1 << 16;
 
-/// The most bytes that are looked at: a head has at most 2^24, and one more tells that the input goes on.
-const MOST: u64 = (1 << 24) + 1;
+/// The most bytes that are read: those of the longest head, and one more, which tells that the input goes on.
+const MOST: u64 = HEAD_LIMIT as u64 + 1;
 
 /// Why a file could not be opened.
 #[derive(Clone, Copy, Debug, PartialEq, Eq, Error)]
 pub enum OpenFault {
-    /// The source failed.
+    /// Reading the source failed.
     #[error("read fault")]
     Read,
-    /// The bytes begin with no head.
+    /// The headers are invalid.
     #[error("head fault")]
     Head(HeaderFault),
 }
 
-/// The front of a file.
+/// The head of a file, and the lengths of both.
 #[derive(Drop, Debug)]
 pub struct Opened {
     pub head: FileHead,
-    /// How many bytes the head fills, at most 2^24.
+    /// The length of the head in bytes, at most 2^24.
     pub head_bytes: usize,
-    /// How many bytes the source has.
+    /// The length of the source in bytes.
     pub length: u64,
 }
 
-/// The head that a source begins with.
-///
-/// At most twice its bytes and 64 KiB are read, and never more than 2^24 + 1.
+/// Reads the head at the front of a source. At most twice its bytes and 64 KiB are read, and never more than 2^24 + 1 (own).
 pub fn open_head<S: Source>(alloc: Global, source: &mut S) -> Result<Opened, Refusal<OpenFault>>
     ensures opened { IsTrue S.means.tells → Opens result (S.means.content source.old) }
     ensures small { IfOk result (λ o. o.head_bytes ≤ 2 ^ 24) }
     ensures same { IsSameSource S.means source.old source.new }
     ensures later { S.means.faults source.old ≤ S.means.faults source.new }
-    ensures read { OwesRead result (Rose (S.means.faults source.old) (S.means.faults source.new)) }
+    ensures read { IfErr result (λ e. OwesRead e (Rose (S.means.faults source.old) (S.means.faults source.new))) }
 {
     let Ok(length) = source.len() else {
         return Err(Refusal::Fault(OpenFault::Read));
@@ -72,7 +70,7 @@ fn head_within<S: Source>(
     ensures small { IfOk result (λ x. x.1 ≤ 2 ^ 24) }
     ensures same { IsSameSource S.means source.old source.new }
     ensures later { S.means.faults source.old ≤ S.means.faults source.new }
-    ensures read { OwesRead result (Rose (S.means.faults source.old) (S.means.faults source.new)) }
+    ensures read { IfErr result (λ e. OwesRead e (Rose (S.means.faults source.old) (S.means.faults source.new))) }
 {
     let mut bytes = Vec::new(alloc);
     let mut wanted = most.min(FIRST);
@@ -85,7 +83,7 @@ fn head_within<S: Source>(
     }
 }
 
-/// What the first bytes of a file say of its head; None where they end too soon and there are more that count.
+/// The head that the first bytes of a file begin with, or its fault; `None` where they end too soon and there are more.
 fn head_in(
     alloc: Global,
     bytes: &[u8],
@@ -94,7 +92,7 @@ fn head_in(
     ensures found { (content : List ℕ) → IsFront bytes.now more content → FindsOrWants result content }
     ensures small { IfOk result (λ o. IfSome o (λ x. x.1 ≤ 2 ^ 24)) }
     ensures ends { more ≡ false → IfOk result (λ o. o ≢ None) }
-    ensures unread { OwesRead result ⊥ }
+    ensures unread { IfErr result (λ e. OwesRead e ⊥) }
 {
     match read_head(alloc, bytes) {
         Ok(found) => Ok(Some(found)),
@@ -115,7 +113,7 @@ fn is_end(fault: HeaderFault) -> bool
     matches!(fault, HeaderFault::Truncated { .. })
 }
 
-/// The first `wanted` bytes of a source, of which some were read before.
+/// The first `wanted` bytes of a source, of which `bytes` were read before.
 fn longer<S: Source>(
     alloc: Global,
     source: &mut S,
@@ -138,7 +136,7 @@ fn longer<S: Source>(
     Ok(bytes)
 }
 
-/// At most `size` bytes of a source from a place on, fewer where it ends. Of the faults Read alone comes.
+/// At most `size` bytes of a source from an offset on, fewer where it ends. The fault is `Read`.
 pub fn read_piece<S: Source>(
     alloc: Global,
     source: &mut S,

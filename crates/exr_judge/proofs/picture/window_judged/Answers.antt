@@ -3,7 +3,7 @@ use Rattle.std.specs.Int.{w32}
 use Rattle.std.proofs.lemmas.Int.{ints, to_z-of_z}
 use mir.Val.{SFits, of_z, to_z}
 use Rattle.exr_judge.specs.Picture.{AreCoordinates}
-use Rattle.exr_judge.proofs.Sides.{side_within}
+use Rattle.exr_base.proofs.Sides.{side_within}
 use Rattle.exr_judge.proofs.picture.window_judged.Goals as goal
 
 pub returns-clause-region : goal.returns-clause-region
