@@ -1,4 +1,4 @@
--- How often an object of the outside has failed: when such a count rose, and which answers owe a rise.
+-- How often an object of I/O has failed, and which answers come only where that count went up in the call.
 use Rattle.std.specs.Prelude.{◌≡◌, ℕ, ◌+◌, ◌-◌, ◌^◌, ◌<◌, ◌≤◌, min, max, Result, Ok, Err, OnErr, ⊤, if◌then◌else◌, ◌==◌}
 use Rattle.exr_base.specs.declared.refusal.Refusal.{Refusal}
 use Rattle.exr_base.specs.declared.refusal.Refusal.TheVariants as refusal
@@ -15,11 +15,11 @@ one_more count = min (count + 1) greatest_count
 abbrev pub Rose : ℕ → ℕ → Type 0
 Rose before now = one_more before ≤ now
 
--- by how much a count rose, which is 1 at least where it stands at the greatest number
+-- by how much a count went up, which is at least 1 where it stands at the greatest number
 abbrev pub rise_of : ℕ → ℕ → ℕ
 rise_of before now = max (now - before) (if now == greatest_count then 1 else 0)
 
--- the call failed only where the count rose in it, and the count did not fall
+-- the call failed only where the count went up in it, and the count did not fall
 pub record HasCause {T E : Type 0} (before now : ℕ) (result : Result T E) : Type 0 where
   pub later : before ≤ now
   pub failed : OnErr result (Rose before now)

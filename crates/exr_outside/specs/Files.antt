@@ -7,7 +7,7 @@ use Rattle.exr_outside.specs.Sink.{SinkMeaning}
 
 -- the meaning of a type of files
 pub record FilesMeaning (F : Type 0) : Type 0 where
-  -- whether the files of this type tell the three lists
+  -- whether the three lists below are what happened, so that clauses may rest on them; false for the files of the system
   pub tells : Bool
   -- the name of each sink given back and what it held, in their order
   pub kept : F → List (List ℕ × List ℕ)

@@ -3,7 +3,7 @@ use Rattle.std.specs.Prelude.{◌≡◌, ℕ, ◌+◌, ◌<◌, ◌≤◌, Bool,
 
 -- the meaning of a type of printers or sinks
 pub record SinkMeaning (S : Type 0) : Type 0 where
-  -- whether the sinks of this type tell what they hold
+  -- whether the bytes below are what these sinks hold, so that clauses may rest on them; false for files of the system
   pub tells : Bool
   pub name : S → List ℕ
   pub holds : S → List ℕ

@@ -3,14 +3,14 @@ use Rattle.std.specs.Prelude.{◌≡◌, ℕ, ◌<◌, ◌≤◌, Bool, IsTrue, 
 
 -- the meaning of a type of sources
 pub record SourceMeaning (S : Type 0) : Type 0 where
-  -- whether the sources of this type tell their content
+  -- whether the content below is what these sources hold, so that clauses may rest on it; false for files of the system
   pub tells : Bool
   pub name : S → List ℕ
   pub content : S → List ℕ
   -- how often a source has failed
   pub faults : S → ℕ
 
--- the source kept its name, and its content where it tells it
+-- the source kept its name, and its content where that is known
 pub record IsSameSource {S : Type 0} (means : SourceMeaning S) (old new : S) : Type 0 where
   pub name : means.name new ≡ means.name old
   pub content : IsTrue means.tells → means.content new ≡ means.content old

@@ -1,8 +1,11 @@
 //! One kind of call of an object in memory: which of them are to fail, counted from 0.
 
-ghost use Rattle.std.specs.Prelude.{◌≡◌, ◌↔◌, IsTrue};
-ghost use Rattle.exr_outside.specs.Fakes.{IsNamed, counted};
+ghost use Rattle.std.specs.Prelude.{◌≡◌, ◌↔◌, IsErr, IsTrue};
+ghost use Rattle.exr_outside.specs.Count.{HasCause};
+ghost use Rattle.exr_outside.specs.Fakes.{IsNamed, counted, faults_after};
 
+use crate::counts::count_failure;
+use exr_base::Failed;
 use std::marker::Model;
 
 /// The calls of one kind: the numbers of those that are to fail, and how many were made.
@@ -36,5 +39,19 @@ impl Calls {
         let named = self.fails.contains(&self.made);
         self.made = self.made.saturating_add(1);
         named
+    }
+
+    /// Makes a call: it fails where it is one that is to fail, and is then counted as a failure.
+    pub fn make(&mut self, faults: &mut u64) -> Result<(), Failed>
+        ensures fails { IsErr result ↔ IsNamed self.old }
+        ensures counted { self.new ≡ counted self.old }
+        ensures faults { faults.new ≡ faults_after result faults.old }
+        ensures cause { HasCause faults.old faults.new result }
+    {
+        if self.is_next_named() {
+            count_failure(faults);
+            return Err(Failed);
+        }
+        Ok(())
     }
 }

@@ -6,7 +6,7 @@ ghost use Rattle.exr_outside.specs.Fakes.{failures_after};
 
 use exr_base::{Failed, Refusal};
 
-/// By how much a count of failures rose between two moments. It is 1 at least where the count rose, also where it
+/// By how much a count of failures went up between two moments. It is at least 1 where the count went up, also where it
 /// stands still at its greatest number.
 pub fn rise(before: u64, now: u64) -> u64
     ensures value { result ≡ rise_of before now }

@@ -6,6 +6,7 @@ ghost use Rattle.exr_outside.specs.Sink.{TakesSome};
 ghost use Rattle.exr_outside.specs.Files.{IsNewSink};
 
 use crate::counts::count_failure;
+use crate::system_file::SystemFile;
 use crate::{Printer, Sink};
 use exr_base::Failed;
 use std::fs::File;
@@ -28,13 +29,11 @@ fn taken_of(written: io::Result<usize>, wanted: usize, faults: &mut u64) -> Resu
     }
 }
 
-/// A file of the system that was created. It does not tell what it holds, and counts each error of the system and
-/// each write that took nothing.
+/// A file of the system that was created. What it holds is not known to contracts; each error of the system and each
+/// write that took nothing is counted.
 #[derive(Drop)]
 pub struct FileSink {
-    file: File,
-    name: String,
-    faults: u64,
+    created: SystemFile,
 }
 
 impl FileSink {
@@ -43,9 +42,7 @@ impl FileSink {
         ensures { IsNewSink ⟦<FileSink as Printer>⟧.means (string_bytes name) result }
     {
         FileSink {
-            file,
-            name,
-            faults: 0,
+            created: SystemFile::new(file, name),
         }
     }
 }
@@ -53,51 +50,51 @@ impl FileSink {
 impl Printer for FileSink {
     ghost means = { record {
       tells = false;
-      name = λ s. string_bytes s.name;
+      name = λ s. string_bytes s.created.name;
       holds = λ _. [];
-      faults = λ s. s.faults;
+      faults = λ s. s.created.faults;
     } };
 
     fn append(&mut self, bytes: &[u8]) -> Result<usize, Failed>
         // What the system is not asked.
         ensures nothing { length bytes.now ≡ 0 → result ≡ Ok 0 }
         ensures some { IfOk result (TakesSome (length bytes.now)) }
-        ensures name { self.new.name ≡ self.old.name }
-        ensures cause { HasCause self.old.faults self.new.faults result }
+        ensures name { self.new.created.name ≡ self.old.created.name }
+        ensures cause { HasCause self.old.created.faults self.new.created.faults result }
     {
         if bytes.is_empty() {
             return Ok(0);
         }
-        let written = self.file.write(bytes);
-        taken_of(written, bytes.len(), &mut self.faults)
+        let written = self.created.file.write(bytes);
+        taken_of(written, bytes.len(), &mut self.created.faults)
     }
 
     fn faults(&self) -> u64 {
-        self.faults
+        self.created.faults
     }
 }
 
 impl Sink for FileSink {
     fn name(&self) -> &str {
-        self.name.as_str()
+        self.created.name.as_str()
     }
 
     fn write_at(&mut self, pos: u64, bytes: &[u8]) -> Result<usize, Failed>
         // What the system is not asked.
         ensures nothing { length bytes.now ≡ 0 → result ≡ Ok 0 }
         ensures some { IfOk result (TakesSome (length bytes.now)) }
-        ensures name { self.new.name ≡ self.old.name }
-        ensures cause { HasCause self.old.faults self.new.faults result }
+        ensures name { self.new.created.name ≡ self.old.created.name }
+        ensures cause { HasCause self.old.created.faults self.new.created.faults result }
     {
         if bytes.is_empty() {
             return Ok(0);
         }
-        let written = self.file.write_at(bytes, pos);
-        taken_of(written, bytes.len(), &mut self.faults)
+        let written = self.created.file.write_at(bytes, pos);
+        taken_of(written, bytes.len(), &mut self.created.faults)
     }
 }
 
-/// Standard output. It has no name, does not tell what it holds, and counts as a file does.
+/// Standard output. It has no name, what it holds is not known to contracts, and failures are counted as for a file.
 #[derive(Drop)]
 pub struct OutSink<R: Print + Drop> {
     rt: R,

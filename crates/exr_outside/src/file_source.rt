@@ -6,20 +6,18 @@ ghost use Rattle.exr_outside.specs.Source.{IsSameSource};
 ghost use Rattle.exr_outside.specs.Files.{IsNewSource};
 
 use crate::Source;
-use crate::counts::count_failure;
+use crate::system_file::{SystemFile, answer_of};
 use exr_base::Failed;
 use std::fs::File;
 use std::os::unix::fs::FileExt;
 
-// From this place on the system cannot be asked.
-const END_OF_PLACES: u64 = 1 << 63;
+// The system takes offsets below this one.
+const END_OF_OFFSETS: u64 = 1 << 63;
 
-/// An open file of the system. It tells no content, and counts each error that the system answers.
+/// An open file of the system. What it holds is not known to contracts; each error that the system answers is counted.
 #[derive(Drop)]
 pub struct FileSource {
-    file: File,
-    name: String,
-    faults: u64,
+    opened: SystemFile,
 }
 
 impl FileSource {
@@ -28,9 +26,7 @@ impl FileSource {
         ensures { IsNewSource ⟦<FileSource as Source>⟧.means (string_bytes name) result }
     {
         FileSource {
-            file,
-            name,
-            faults: 0,
+            opened: SystemFile::new(file, name),
         }
     }
 }
@@ -38,23 +34,18 @@ impl FileSource {
 impl Source for FileSource {
     ghost means = { record {
       tells = false;
-      name = λ s. string_bytes s.name;
+      name = λ s. string_bytes s.opened.name;
       content = λ _. [];
-      faults = λ s. s.faults;
+      faults = λ s. s.opened.faults;
     } };
 
     fn name(&self) -> &str {
-        self.name.as_str()
+        self.opened.name.as_str()
     }
 
     fn len(&mut self) -> Result<u64, Failed> {
-        match self.file.metadata() {
-            Ok(metadata) => Ok(metadata.len()),
-            Err(_) => {
-                count_failure(&mut self.faults);
-                Err(Failed)
-            }
-        }
+        let metadata = answer_of(self.opened.file.metadata(), &mut self.opened.faults)?;
+        Ok(metadata.len())
     }
 
     fn read_at(&mut self, pos: u64, into: &mut [u8]) -> Result<usize, Failed>
@@ -63,21 +54,15 @@ impl Source for FileSource {
         ensures past { 2 ^ 63 ≤ pos → result ≡ Ok 0 }
         ensures bound { IfOk result (λ count. count ≤ length into.old) }
         ensures same { IsSameSource ⟦<FileSource as Source>⟧.means self.old self.new }
-        ensures cause { HasCause self.old.faults self.new.faults result }
+        ensures cause { HasCause self.old.opened.faults self.new.opened.faults result }
     {
-        if into.is_empty() || pos >= END_OF_PLACES {
+        if into.is_empty() || pos >= END_OF_OFFSETS {
             return Ok(0);
         }
-        match self.file.read_at(into, pos) {
-            Ok(count) => Ok(count),
-            Err(_) => {
-                count_failure(&mut self.faults);
-                Err(Failed)
-            }
-        }
+        answer_of(self.opened.file.read_at(into, pos), &mut self.opened.faults)
     }
 
     fn faults(&self) -> u64 {
-        self.faults
+        self.opened.faults
     }
 }

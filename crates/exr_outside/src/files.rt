@@ -8,7 +8,8 @@ use crate::{Sink, Source, World};
 use exr_base::{Failed, Refusal};
 
 /// The files of a world. It hands out sources and sinks, which are given back, and counts failures of its own calls
-/// and of what was given back. It may tell which names it was asked and what it was given back.
+/// and of what was given back. As for a source, `means.tells` says whether contracts know the names that were asked for
+/// and what was given back.
 pub trait Files<W: World> {
     type In: Source;
 

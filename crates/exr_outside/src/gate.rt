@@ -1,4 +1,4 @@
-//! A gate that callers pass before and after their work on a chunk, so that a test can hold them.
+//! A gate that is told of each job before and after it, so that a test can hold the caller there.
 
 /// What callers pass before (`done` is false) and after (`done` is true) each job. It returns, and means nothing.
 pub trait Gate: Sync {

@@ -1,6 +1,6 @@
-//! The outside: sources, sinks, sets of files and gates as traits that state what each call means and when it may
-//! fail; fakes in memory that fail exactly where they are told to; and thin adapters over real files. It promises
-//! that no call fails unless its object's count of failures rose.
+//! I/O: sources, sinks, sets of files and gates as traits that state what each call means and when it may fail; fakes in
+//! memory that fail exactly where they are told to; and thin adapters over real files. Each object counts its failures,
+//! and no call fails unless that count went up in it.
 #![tactic(auto)]
 
 mod calls;
@@ -16,8 +16,7 @@ mod real_files;
 mod shelf;
 mod sink;
 mod source;
-#[cfg(test)]
-mod tests;
+mod system_file;
 mod transfer;
 mod world;
 

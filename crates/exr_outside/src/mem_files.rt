@@ -25,8 +25,8 @@ pub struct Fails {
     pub writes: Vec<u64>,
 }
 
-/// Files in memory, which tell what was asked and given back. A call fails exactly where it is named, and an `open`
-/// also where there is no such name.
+/// Files in memory; contracts know what was asked for and given back. A call fails exactly where its number is listed, and
+/// an `open` also where there is no such name.
 #[derive(Drop)]
 pub struct MemFiles<W: World> {
     alloc: Global,

@@ -1,4 +1,4 @@
-//! A sink in memory, with room for so many bytes and lists of the calls that are to fail.
+//! A sink in memory, with room for a number of bytes and lists of the calls that are to fail.
 
 ghost use Rattle.std.specs.Prelude.{◌≡◌, ◌↔◌, ◌⊎◌, ◌+◌, ◌-◌, ◌<◌, ◌≤◌, ◌∷◌, ◌++◌, min, true, IsErr, IfOk, OnOk, OnErr, length, take};
 ghost use Rattle.exr_outside.specs.Count.{HasCause};
@@ -13,8 +13,8 @@ use exr_base::{Failed, NoMemory};
 use std::alloc::Global;
 use std::marker::Model;
 
-/// A sink in memory, which tells what it holds. A call fails exactly where it is named, each kind of call counted
-/// from 0, and an `append` of some bytes also where the room is used up.
+/// A sink in memory; contracts know what it holds. A call fails exactly where its number is listed, each kind of call
+/// counted from 0, and an `append` of some bytes also where the room is used up.
 #[derive(Drop)]
 pub struct MemSink {
     name: String,
@@ -49,7 +49,7 @@ impl Model for MemSink {
 impl MemSink {
     ghost use Rattle.exr_outside.specs.Shelf.{shelved, shelved_in};
 
-    /// A sink of this name that holds nothing, with room for so many bytes; the lists name the calls of `append` and
+    /// A sink of this name that holds nothing, with room for `room` bytes; the lists name the calls of `append` and
     /// of `write_at` that are to fail.
     pub fn new(
         alloc: Global,
@@ -159,10 +159,7 @@ impl Sink for MemSink {
         } }
         ensures cause { HasCause self.old.faults self.new.faults result }
     {
-        if self.write_calls.is_next_named() {
-            count_failure(&mut self.faults);
-            return Err(Failed);
-        }
+        self.write_calls.make(&mut self.faults)?;
         let from = pos as usize;
         self.bytes[from..from + bytes.len()].copy_from_slice(bytes);
         Ok(bytes.len())

@@ -7,12 +7,11 @@ ghost use Rattle.exr_outside.specs.Fakes.{IsNamed, IsUnnamed, counted, faults_af
 
 use crate::Source;
 use crate::calls::Calls;
-use crate::counts::count_failure;
 use exr_base::{Failed, NoMemory};
 use std::alloc::Global;
 use std::marker::Model;
 
-/// A source over bytes in memory, which tells its content. A call fails exactly where it is named, each kind of call
+/// A source over bytes in memory, which contracts know. A call fails exactly where its number is listed, each kind of call
 /// counted from 0.
 #[derive(Drop)]
 pub struct MemSource {
@@ -82,10 +81,7 @@ impl Source for MemSource {
         } }
         ensures cause { HasCause self.old.faults self.new.faults result }
     {
-        if self.len_calls.is_next_named() {
-            count_failure(&mut self.faults);
-            return Err(Failed);
-        }
+        self.len_calls.make(&mut self.faults)?;
         Ok(self.bytes.len() as u64)
     }
 
@@ -99,10 +95,7 @@ impl Source for MemSource {
         } }
         ensures cause { HasCause self.old.faults self.new.faults result }
     {
-        if self.read_calls.is_next_named() {
-            count_failure(&mut self.faults);
-            return Err(Failed);
-        }
+        self.read_calls.make(&mut self.faults)?;
         let from = (pos as usize).min(self.bytes.len());
         let count = into.len().min(self.bytes.len() - from);
         into[..count].copy_from_slice(&self.bytes[from..from + count]);

@@ -12,7 +12,8 @@ use exr_base::{Failed, Refusal};
 use std::alloc::Global;
 use std::fs::File;
 
-/// The files of the system, reached by a runtime. They tell nothing; each error of the system is a failure.
+/// The files of the system, reached by a runtime. What they hold is not known to contracts; each error of the system is a
+/// failure.
 #[derive(Drop)]
 pub struct RealFiles<R: std::rt::Files<File = File> + Drop> {
     rt: R,

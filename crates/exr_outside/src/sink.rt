@@ -6,8 +6,8 @@ ghost use Rattle.exr_outside.specs.Sink.{SinkMeaning, TakesSome, AddsPrefix, rep
 
 use exr_base::Failed;
 
-/// What bytes are added to. It may tell what it holds, and it counts its failures. Its name is that of its file, or
-/// empty where it has none.
+/// What bytes are added to. It counts its failures. Its name is that of its file, or empty where it has none. As for a
+/// source, `means.tells` says whether contracts know what it holds.
 pub trait Printer {
     ghost means: { SinkMeaning Self };
 

@@ -6,8 +6,11 @@ ghost use Rattle.exr_outside.specs.Source.{SourceMeaning, IsSameSource, ReadsPie
 
 use exr_base::Failed;
 
-/// A file that is read by position. It has a name that no call changes, it may tell its content, which then stays
-/// the same, and it counts its failures.
+/// A file that is read by position. It has a name that no call changes, and it counts its failures.
+///
+/// A type of sources says by `means.tells` whether contracts know what its sources hold. A source in memory tells its
+/// content, which then stays the same, and every read is of that content; a file of the system does not, since another
+/// program may change it, and then no clause about content says anything.
 pub trait Source {
     ghost means: { SourceMeaning Self };
 

@@ -11,9 +11,9 @@ use exr_base::{Failed, Refusal};
 use std::alloc::Global;
 use thiserror::Error;
 
-/// A write of a whole list that failed behind its first bytes, of which this many were taken.
+/// A write of a whole list that failed after `taken` of its bytes were written.
 #[derive(Clone, Copy, Debug, PartialEq, Eq, Error)]
-#[error("cut short behind {taken} bytes")]
+#[error("cut short after {taken} bytes")]
 pub struct CutShort {
     pub taken: usize,
 }

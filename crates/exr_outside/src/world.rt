@@ -10,7 +10,7 @@ pub trait World: Send + Sync {
     ghost bytes_of: { List ℕ → List ℕ };
 }
 
-/// The world of the running system, of which nothing is told.
+/// The world of the running system, of which contracts know nothing.
 pub struct RealWorld;
 
 impl World for RealWorld {
