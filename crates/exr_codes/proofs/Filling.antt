@@ -15,7 +15,7 @@ pub record IsBegun (lengths : List ℕ) (count total : ℕ) : Type 0 where
   pub behind : drop count lengths ≡ replicate (length lengths - count) 0
   pub sum : total ≡ min (sum_by weight_of (take count lengths)) (2 ^ 58 + 1)
 
-zeros_short : (n k : ℕ) → get_or (replicate n 0) k 0 ≤ 58
+pub zeros_short : (n k : ℕ) → get_or (replicate n 0) k 0 ≤ 58
 zeros_short zero k = omega arith
 zeros_short (suc n) zero = omega arith
 zeros_short (suc n) (suc k) = zeros_short n k

@@ -1,7 +1,7 @@
 -- Each code of a complete table takes an interval of the numbers below 2 ^ 58, and no two of them meet.
-use Rattle.std.proofs.Common.{◌≡◌, ℕ, zero, suc, ◌+◌, ◌-◌, ◌*◌, ◌/◌, ◌%◌, ◌^◌, ◌<◌, ◌≤◌, ◌⊎◌, Bool, true, false, cond, eqb, ltb, leb, ◌&&◌, List, [], ◌∷◌, ◌++◌, length, take, get_or, replicate, Option, Some, None, refl, sym, ap, ◌∙◌, subst, inl, inr, arith, mod-eq_of_lt}
+use Rattle.std.proofs.Common.{◌≡◌, ℕ, zero, suc, ◌+◌, ◌-◌, ◌*◌, ◌/◌, ◌%◌, ◌^◌, ◌<◌, ◌≤◌, ◌⊎◌, Bool, true, false, cond, eqb, ltb, leb, ◌&&◌, List, [], ◌∷◌, ◌++◌, length, take, drop, get_or, replicate, Option, Some, None, refl, sym, ap, ◌∙◌, subst, inl, inr, arith, mod-eq_of_lt}
 use Rattle.std.specs.List.{sum_by}
-use Rattle.std.proofs.lemmas.List.{get_or_past, take-take, take_at, take-append-le, length-replicate, length-append, length-take}
+use Rattle.std.proofs.lemmas.List.{get_or_past, take-take, take_at, take-append-le, take-append-drop, length-replicate, length-append, length-take}
 use Rattle.std.proofs.lemmas.List.Sums.{sum_by-cons, sum_by-take-le, count_by_more_yes}
 use Rattle.std.proofs.lemmas.Bool.{cases_lt, cases_eq, cases_order, eq-eqb, lt-ltb, le-ltb, ltb-true, eqb-true, leb-true, le-leb, and_parts, and_from, false_from_ne_true}
 use Rattle.std.proofs.lemmas.Bool.Decides.{nat_tests}
@@ -9,7 +9,7 @@ use Rattle.std.proofs.lemmas.Nat.{pow_pos, pow-add, shl-shr, shr-shr, shr_high, 
 use Rattle.std.proofs.Math.Nat.{mul_comm, mul-sub, mul-le-mul_right, lt_of_mul-lt-mul_right}
 use Rattle.exr_base.specs.Bits.{number_of, bits_of}
 use Rattle.exr_base.proofs.BitLists.{length-bits_of, number_of-append, number_of-below, number_of-bits_of}
-use Rattle.exr_codes.proofs.BitFronts.{number_of-take}
+use Rattle.exr_codes.proofs.BitFronts.{number_of-take, bits_of-front}
 use Rattle.exr_codes.specs.Windows.{IsWindow, IsCodeAt}
 use Rattle.exr_codes.specs.Codes.{weight_of, IsComplete, weight_above, count_of, code_number, code_of, code_begins, first_below, first_of_two, entry_at, IsPrefixFree}
 
@@ -304,6 +304,16 @@ unfolding entry_at
 entry_at_is lengths bits k e =
     let p = code_begins_parts lengths bits k (first_below_passes (code_begins lengths bits) (length lengths) k e) in
     (p.0, p.1)
+
+-- the bits are the code of the entry found and what is behind it
+pub entry_at_joined : (lengths : List ℕ) (bits : List Bool) (k : ℕ) → entry_at lengths bits ≡ Some k → (k < length lengths) × (0 < get_or lengths k 0) × (bits ≡ code_of lengths k ++ drop (get_or lengths k 0) bits)
+unfolding entry_at code_of
+entry_at_joined lengths bits k e =
+    let len = get_or lengths k 0 in
+    let p = code_begins_parts lengths bits k (first_below_passes (code_begins lengths bits) (length lengths) k e) in
+    let within : k < length lengths = elim (cases_lt k (length lengths)) [ inl lt ↦ lt | inr past ↦ absurd (omega (arith, get_or_past lengths k 0 past, p.0)) ] in
+    let code : bits_of len (code_number lengths k) ≡ take len bits = ap (bits_of len) (sym p.2) ∙ bits_of-front len bits p.1 in
+    (within, p.0, sym (take-append-drop len bits) ∙ ap (λ (front : List Bool). front ++ drop len bits) (sym code))
 
 -- no code begins no bits
 pub entry_at_nothing : (lengths : List ℕ) → entry_at lengths [] ≡ None

@@ -7,3 +7,4 @@ pub mod Reading
 pub mod Nine
 pub mod Rests
 pub mod Filling
+pub mod Wholes

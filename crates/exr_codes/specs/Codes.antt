@@ -21,7 +21,7 @@ weight_above len lengths = sum_by (λ l. if nat_lt len l then weight_of l else 0
 unfoldable pub count_of : ℕ → List ℕ → ℕ
 count_of len lengths = count_by (λ l. l == len) lengths
 
--- code k as a number: codes of one length rise by one, behind the longer ones (own)
+-- code k as a number: codes of one length rise by one, after the longer ones (own)
 unfoldable pub code_number : List ℕ → ℕ → ℕ
 code_number lengths k =
     let len = slice_index lengths k in

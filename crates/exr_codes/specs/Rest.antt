@@ -1,4 +1,4 @@
--- The bits from a place on, and with zero bits behind the last one.
+-- The bits from a place on, and with zero bits after the last one.
 use Rattle.std.specs.Prelude.{ℕ, Bool, false, List, ◌++◌, drop, replicate}
 use Rattle.exr_base.specs.Bits.{bits_of_bytes}
 

@@ -6,7 +6,7 @@ ghost use Rattle.exr_codes.specs.Tables.{item_at};
 
 use crate::reader::Reader;
 
-/// An item: one length of at most 58 bits, or so many entries without a code.
+/// An item: one length of at most 58 bits, or a number of entries without a code.
 #[derive(Clone, Copy)]
 pub(crate) enum Item {
     Length(u8),

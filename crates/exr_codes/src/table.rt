@@ -13,7 +13,7 @@ use std::alloc::Global;
 /// What all codes of a complete table take.
 const WHOLE: u64 = 1 << 58;
 
-/// What a code of so many bits takes of 2^58.
+/// What a code of `len` bits takes of 2^58.
 fn weight(len: u8) -> u64
     requires { len ≤ 58 }
     ensures value { result ≡ weight_of len }
@@ -47,7 +47,7 @@ fn with_weight(total: u64, len: u8) -> u64
 }
 
 /// Writes lengths over zeros, item by item. Says whether their codes take all of 2^58; None where the bits do not spell
-/// so many lengths.
+/// all lengths.
 fn fill_lengths(reader: &mut Reader<'_>, lengths: &mut [u8]) -> Option<bool>
     requires zeros { lengths.old ≡ replicate (length lengths.old) 0 }
     ensures value { MatchOption result (lengths_at (length lengths.old) reader.old ≡ None) (λ full. lengths_at (length lengths.old) reader.old ≡ Some (lengths.new, reader.new)) }

@@ -1,11 +1,11 @@
-//! A window over the bits of a slice: the next ones stand at the high end of a number of 64 bits.
+//! A window over the bits of a slice: the next ones are the high end of a number of 64 bits.
 
 ghost use Rattle.std.specs.Prelude.{◌≡◌, ℕ, ◌+◌, ◌-◌, ◌*◌, ◌^◌, ◌<◌, ◌≤◌, ◌++◌, length, take, drop, replicate};
 ghost use Rattle.exr_base.specs.Bits.{number_of, bits_of_bytes};
 ghost use Rattle.exr_codes.specs.Windows.{IsWindow};
 ghost use Rattle.exr_codes.specs.Rest.{rest_at};
 
-/// The 64 bits behind the first `offset` bits of nine bytes.
+/// The 64 bits after the first `offset` bits of nine bytes.
 fn bits_of_nine(bytes: &[u8], offset: u32) -> u64
     requires long { 9 ≤ length bytes.now }
     requires small { offset < 8 }
@@ -18,7 +18,7 @@ fn bits_of_nine(bytes: &[u8], offset: u32) -> u64
     high << offset | low >> (8 - offset)
 }
 
-/// Fewer than nine bytes, and zero bytes behind them.
+/// At most nine bytes, filled up with zero bytes.
 fn filled_up(rest: &[u8]) -> [u8; 9]
     requires { length rest.now ≤ 9 }
     ensures { result ≡ rest.now ++ replicate (9 - length rest.now) 0 }
@@ -30,7 +30,7 @@ fn filled_up(rest: &[u8]) -> [u8; 9]
     last
 }
 
-/// The 64 bits from bit `at` on, with zero bits behind the last byte.
+/// The 64 bits from bit `at` on, with zero bits after the last byte.
 fn bits_at(bytes: &[u8], at: u64) -> u64
     requires { at ≤ 8 * length bytes.now }
     ensures { result ≡ number_of (take 64 (rest_at bytes.now at)) }
@@ -44,7 +44,7 @@ fn bits_at(bytes: &[u8], at: u64) -> u64
     }
 }
 
-/// The next bits of a slice: `have` of them stand at the high end of `window`, and `at` is the place of the first.
+/// The next bits of a slice: `have` of them are the high end of `window`, and `at` is the place of the first.
 #[derive(Drop)]
 pub struct Window<'a> {
     pub bytes: &'a [u8],
@@ -81,7 +81,7 @@ impl<'a> Window<'a> {
         self.have = 64;
     }
 
-    /// Goes on behind `n` bits.
+    /// Moves `n` bits on.
     #[inline(always)]
     pub fn skip(&mut self, n: u32)
         requires some { n < 64 }

@@ -4,22 +4,11 @@ use Rattle.std.specs.Int.{w64, byte_at, bytes_high_first, to_be_bytes}
 use Rattle.std.proofs.Math.Nat.{pow-suc}
 use Rattle.std.proofs.Math.Seq.{take-add}
 use Rattle.std.proofs.lemmas.Bool.{cases_lt}
-use Rattle.std.proofs.lemmas.List.{length-append, length-take, length-take-le, take_at, drop_at, take-append-le, take-append-drop, take-take, get_or-take, get_or_past}
+use Rattle.std.proofs.lemmas.List.{length-append, length-take, length-take-le, take_at, drop_at, take-append-drop, take-take, get_or-take, get_or_past}
 use Rattle.std.proofs.lemmas.Nat.{pow-add, shl-shr, shr-shr, mul-add-lt}
-use borrow.Rule.Slice.PartMut.{put_mid}
 use Rattle.exr_base.specs.Bits.{bits_of, bits_of_bytes}
 use Rattle.exr_base.proofs.BitLists.{length-bits_of, length-bits_of_bytes, bits_of-add, bits_of-low, bits_of-laid, bits_of_bytes-cons, bits_of_bytes-append}
 use Rattle.exr_encoder.specs.Writing.{written, times_bits}
-
--- the front of what was written over a part
-pub take_front_put_mid : (xs ys : List ℕ) (to room count : ℕ) → to ≤ length xs → count ≤ length ys → take (to + count) (put_mid to room xs ys) ≡ take to xs ++ take count ys
-take_front_put_mid xs ys to room count there enough =
-    let whole = put_mid to room xs ys in
-    let long = length-take-le to xs there in
-    take-add to count whole
-    ∙ ap (λ front. front ++ take count (drop to whole)) (take_at (take to xs) _ to long)
-    ∙ ap (λ back. take to xs ++ take count back) (drop_at (take to xs) _ to long)
-    ∙ ap (λ back. take to xs ++ back) (take-append-le count ys _ enough)
 
 -- ---- a number of 64 bits as bytes
 

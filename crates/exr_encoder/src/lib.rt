@@ -1,5 +1,5 @@
 //! Writing with a complete table of code lengths: the bytes that spell the table, the code of each entry, and bits
-//! laid one behind the other.
+//! laid one after the other.
 #![tactic(auto)]
 
 mod encoder;

@@ -1,11 +1,11 @@
-//! Writing bits into a slice, eight bytes at a time: the whole bytes among them stay, and the bits behind wait.
+//! Writing bits into a slice, eight bytes at a time: whole bytes are done, and the bits after them wait.
 
 ghost use Rattle.std.specs.Prelude.{◌≡◌, ℕ, ◌+◌, ◌*◌, ◌/◌, ◌^◌, ◌<◌, ◌≤◌, ◌++◌, List, length, take};
 ghost use Rattle.std.specs.Int.{w64, to_be_bytes};
 ghost use Rattle.exr_base.specs.Bits.{bits_of, bytes_of};
 ghost use Rattle.exr_encoder.specs.Writing.{written, times_bits};
 
-/// Writes a number over eight bytes, the high one first; nothing is known of the bytes behind them.
+/// Writes a number over eight bytes, the high one first; nothing is known of the bytes after them.
 fn store(out: &mut [u8], at: usize, number: u64)
     requires { at + 8 ≤ length out.old }
     ensures { take (at + 8) out.new ≡ take at out.old ++ to_be_bytes w64 number }
@@ -54,7 +54,7 @@ impl Pen {
         self.pending = bits & ((1 << (have % 8)) - 1);
     }
 
-    /// Writes the bits that wait, with zero bits behind them. Gives the number of bytes that are written.
+    /// Writes the bits that wait, filled up with zero bits. Gives the number of bytes written.
     pub fn finish(self, out: &mut [u8]) -> usize
         requires room { self.at < length out.old }
         ensures bytes { take result out.new ≡ bytes_of (written self.at self.have self.pending out.old) }

@@ -7,14 +7,14 @@ ghost use Rattle.exr_encoder.specs.Spelling.{table_bits, zeros_at, zeros_bits};
 use exr_base::{BitWriter, NoMemory};
 use std::alloc::Global;
 
-/// How many entries one item can pass, where so many are left.
+/// Number of entries that one item can cover where `left` are left.
 fn most_zeros(left: usize) -> usize
     ensures { result ≡ min 261 left }
 {
     left.min(261)
 }
 
-/// How many entries without a code stand from place `at` on, at most 261.
+/// Number of entries without a code from `at` on, at most 261.
 fn zeros_from(lengths: &[u8], at: usize) -> usize
     requires { at < length lengths.now }
     ensures { result ≡ zeros_at (drop at lengths.now) }
@@ -72,7 +72,7 @@ mod tests {
     use std::test::Fail;
 
     // Two codes of one bit are `04 10`. Between two codes of one bit, a single entry without a code is six zero bits,
-    // three of them are the item 60, and seven are 63 with 1 behind it.
+    // three of them are the item 60, and seven are 63 followed by 1.
     #[test]
     fn tables(rt: HostRuntime) -> Result<(), Fail> {
         let two = write_table(rt.alloc(), &[1, 1])?;

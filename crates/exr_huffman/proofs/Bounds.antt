@@ -13,7 +13,7 @@ use Rattle.exr_huffman.specs.declared.fault.HufFault.TheVariants.{TooFew}
 use Rattle.exr_huffman.proofs.Progress.{last_from, word_first, judged_few}
 
 -- how many words a token gives
-abbrev size_of : Token → ℕ
+abbrev pub size_of : Token → ℕ
 size_of (word w) = 1
 size_of (more count) = count
 
@@ -40,7 +40,7 @@ token_at_paid : (least : ℕ) (lengths : List ℕ) (bits : List Bool) → IsPaid
 unfolding token_at
 token_at_paid least lengths bits = at_entry_paid least lengths bits (entry_at lengths bits) refl
 
-size_is : (before : ℕ) (t : Token) (tokens : List Token) → length (words_from before (t ∷ tokens)) ≡ size_of t + length (words_from (last_from before (t ∷ [])) tokens)
+pub size_is : (before : ℕ) (t : Token) (tokens : List Token) → length (words_from before (t ∷ tokens)) ≡ size_of t + length (words_from (last_from before (t ∷ [])) tokens)
 unfolding words_from
 size_is before (word w) tokens = omega arith
 size_is before (more count) tokens = rw (length-append, length-replicate) refl

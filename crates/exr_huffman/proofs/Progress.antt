@@ -128,11 +128,11 @@ pub judged_few : (wanted : ℕ) (read : List Token × List Bool) → length (wor
 unfolding judged
 judged_few wanted read few = rw (lt-ltb (length (words_of read.0)) wanted few) refl
 
-judged_many : (wanted : ℕ) (read : List Token × List Bool) → wanted ≤ length (words_of read.0) → (eqb (length (words_of read.0)) wanted && eqb (length read.1) 0 && ltb (length (words_of (take (length read.0 - 1) read.0))) wanted) ≡ false → judged wanted read ≡ Err TooMany
+pub judged_many : (wanted : ℕ) (read : List Token × List Bool) → wanted ≤ length (words_of read.0) → (eqb (length (words_of read.0)) wanted && eqb (length read.1) 0 && ltb (length (words_of (take (length read.0 - 1) read.0))) wanted) ≡ false → judged wanted read ≡ Err TooMany
 unfolding judged
 judged_many wanted read many wrong = rw (le-ltb (length (words_of read.0)) wanted many, wrong) refl
 
-judged_ok : (wanted : ℕ) (read : List Token × List Bool) → length (words_of read.0) ≡ wanted → length read.1 ≡ 0 → length (words_of (take (length read.0 - 1) read.0)) < wanted → judged wanted read ≡ Ok (words_of read.0)
+pub judged_ok : (wanted : ℕ) (read : List Token × List Bool) → length (words_of read.0) ≡ wanted → length read.1 ≡ 0 → length (words_of (take (length read.0 - 1) read.0)) < wanted → judged wanted read ≡ Ok (words_of read.0)
 unfolding judged
 judged_ok wanted read just none earlier =
     rw (le-ltb (length (words_of read.0)) wanted (omega arith), eq-eqb (length (words_of read.0)) wanted just, eq-eqb (length read.1) 0 none, lt-ltb (length (words_of (take (length read.0 - 1) read.0))) wanted earlier) refl

@@ -29,13 +29,13 @@ block_is packed table behind least greatest size bits long e0 e1 e2 e3 ordered r
     ) refl
 
 pub refused : (packed : List ℕ) (wanted : ℕ) (e : Refusal HufFault) → Refuses e (block_of packed) → Refuses e (huffman_words_of packed wanted)
-unfolding huffman_words_of
+unfolding huffman_words_of data_of
 refused packed wanted (refusal.Fault f) fault = rw fault refl
 refused packed wanted refusal.NoMemory fault = tt
 
 module _ (packed : List ℕ) (wanted : ℕ) (block : Block) (is : block_of packed ≡ Ok block) where
   pub without_table : table_of (block.greatest - block.least + 1) block.table ≡ None → huffman_words_of packed wanted ≡ Err BadTable
-  unfolding huffman_words_of
+  unfolding huffman_words_of data_of
   without_table table = rw (is, table) refl
 
   pub without_data : (lengths : List ℕ) → table_of (block.greatest - block.least + 1) block.table ≡ Some lengths → length block.behind < (block.bits + 7) / 8 → huffman_words_of packed wanted ≡ Err Short

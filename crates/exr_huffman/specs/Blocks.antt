@@ -10,7 +10,7 @@ use Rattle.exr_huffman.specs.declared.fault.HufFault.TheVariants.{Short, BadRang
 use Rattle.exr_huffman.specs.Tokens.{Token, run_entry, tokens_of, words_of}
 
 -- the parts of a block: its least and greatest symbol, the bytes of its table, the number of its data bits, and the
--- bytes behind the table (own)
+-- bytes after the table (own)
 pub record Block : Type 0 where
   pub least : ℕ
   pub greatest : ℕ
@@ -46,8 +46,22 @@ abbrev pub data_bits : List ℕ → ℕ → List Bool
 data_bits bytes bits = take bits (bits_of_bytes bytes)
 
 -- the data bits, where their bytes are there (own)
-unfoldable pub data_of : Block → Result (List Bool) HufFault
-data_of block = if nat_lt (length block.behind) ((block.bits + 7) / 8) then Err Short else Ok (data_bits block.behind block.bits)
+abbrev pub bits_of_block : Block → Result (List Bool) HufFault
+bits_of_block block = if nat_lt (length block.behind) ((block.bits + 7) / 8) then Err Short else Ok (data_bits block.behind block.bits)
+
+-- the least symbol of a block, the lengths of its codes and its data bits (own)
+pub record Data : Type 0 where
+  pub least : ℕ
+  pub lengths : List ℕ
+  pub bits : List Bool
+
+-- the data of a block, where its table is complete and all its bytes are there (own)
+unfoldable pub data_of : List ℕ → Result Data HufFault
+data_of packed = do
+  block ← block_of packed
+  lengths ← or_bad_table (table_of (block.greatest - block.least + 1) block.table)
+  bits ← bits_of_block block
+  Ok (record { least = block.least; lengths = lengths; bits = bits })
 
 -- the bits begin with the code of the run symbol (own)
 abbrev pub is_run : List ℕ → Option ℕ → Bool
@@ -70,7 +84,5 @@ data_words_of least lengths wanted bits =
 -- so many words that a block spells, or its first fault (own)
 unfoldable pub huffman_words_of : List ℕ → ℕ → Result (List ℕ) HufFault
 huffman_words_of packed wanted = do
-  block ← block_of packed
-  lengths ← or_bad_table (table_of (block.greatest - block.least + 1) block.table)
-  bits ← data_of block
-  data_words_of block.least lengths wanted bits
+  d ← data_of packed
+  data_words_of d.least d.lengths wanted d.bits

@@ -1,4 +1,5 @@
 pub mod Tokens
 pub mod Blocks
+pub mod Joined
 pub mod Nexts
 pub mod Parts

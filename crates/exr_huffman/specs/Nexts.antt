@@ -9,7 +9,7 @@ use Rattle.exr_huffman.specs.declared.data.Next.TheVariants.{Word, More, Cut}
 abbrev pub data_rest : List ℕ → ℕ → ℕ → List Bool
 data_rest bytes bits at = drop at (take bits (bits_of_bytes bytes))
 
--- the whole token that begins the bits, with the bits behind it, or that none does (own)
+-- the whole token that begins the bits, with the bits after it, or that none does (own)
 abbrev pub IsNext : ℕ → List ℕ → List Bool → List Bool → Next → Type 0
 IsNext least lengths from to (Word w) = token_at least lengths from ≡ Some (word w, to)
 IsNext least lengths from to (More count) = token_at least lengths from ≡ Some (more count, to)

@@ -1,9 +1,12 @@
 //! A block: its head of five numbers, the table of code lengths, and the data bits.
 
-ghost use Rattle.std.specs.Prelude.{◌≡◌, ◌+◌, ◌^◌, ◌<◌, ◌≤◌, length, take, drop, IfOk};
+ghost use Rattle.std.specs.Prelude.{◌≡◌, ℕ, ◌+◌, ◌^◌, ◌<◌, ◌≤◌, List, length, take, drop, Result, Ok, Err, IfOk, IsErrOf};
 ghost use Rattle.std.specs.Int.{w32, from_le_bytes};
 ghost use Rattle.exr_base.specs.Refusal.{Gives};
 ghost use Rattle.exr_huffman.specs.Blocks.{huffman_words_of, block_of, number_at};
+ghost use Rattle.exr_base.specs.declared.refusal.Refusal.TheVariants as refusal;
+ghost use Rattle.exr_huffman.specs.declared.fault.HufFault.{HufFault};
+ghost use Rattle.exr_huffman.specs.Joined.{BlockHolds};
 ghost use Rattle.exr_huffman.specs.Parts.{block_of_parts};
 
 use crate::data::data_words;
@@ -13,7 +16,7 @@ use exr_codes::{Decoder, read_table};
 use std::alloc::Global;
 
 /// The parts of a block: its least and greatest symbol, the bytes of its table, the number of its data bits, and the
-/// bytes behind the table.
+/// bytes after the table.
 #[derive(Drop)]
 struct Parts<'a> {
     least: u32,
@@ -64,9 +67,22 @@ fn parts_of(packed: &[u8]) -> Result<Parts<'_>, Refusal<HufFault>>
     })
 }
 
-/// The `words` words of a block, or the first thing that is wrong with it. Bytes behind the data bits are not looked
+/// The `words` words of a block, or the first thing that is wrong with it. Bytes after the data bits are not looked
 /// at, nor are the bits that fill their last byte.
 pub fn unpack(alloc: Global, packed: &[u8], words: usize) -> Result<Vec<u16>, Refusal<HufFault>>
+    requires some { 0 < words }
+    requires most { words ≤ 2 ^ 25 }
+    // What is given is what the joined bits of tokens say that the block holds, or its first fault.
+    ensures found { IfOk result (λ v. BlockHolds packed.now words (Ok v.items)) }
+    ensures faults { (fault : HufFault) → IsErrOf result (refusal.Fault fault) → BlockHolds packed.now words (Err fault) }
+    // What a block holds is given, unless memory runs out: no other words, and no other fault.
+    ensures only { (outcome : Result (List ℕ) HufFault) → BlockHolds packed.now words outcome → Gives (λ v. v.items) result outcome }
+    ensures exact { Gives (λ v. v.items) result (huffman_words_of packed.now words) }
+{
+    unpack_exactly(alloc, packed, words)
+}
+
+fn unpack_exactly(alloc: Global, packed: &[u8], words: usize) -> Result<Vec<u16>, Refusal<HufFault>>
     requires some { 0 < words }
     requires most { words ≤ 2 ^ 25 }
     ensures { Gives (λ v. v.items) result (huffman_words_of packed.now words) }

@@ -1,6 +1,6 @@
 //! The data bits of a block: they are read code by code until all words are there.
 
-ghost use Rattle.std.specs.Prelude.{◌≡◌, ◌≢◌, ℕ, ◌+◌, ◌-◌, ◌*◌, ◌^◌, ◌<◌, ◌≤◌, ◌++◌, false, length, take, replicate, MatchResult};
+ghost use Rattle.std.specs.Prelude.{◌≡◌, ◌≢◌, ℕ, ◌+◌, ◌-◌, ◌*◌, ◌^◌, ◌<◌, ◌≤◌, ◌++◌, false, length, take, replicate, slice_index, option_map, IfSome, MatchResult};
 ghost use Rattle.exr_base.specs.Bits.{number_of};
 ghost use Rattle.exr_base.specs.Refusal.{Gives};
 ghost use Rattle.exr_codes.specs.Codes.{IsComplete, entry_at};
@@ -35,6 +35,28 @@ fn find(decoder: &Decoder, window: &mut Window<'_>) -> Found
     decoder.find(window.window)
 }
 
+/// The code that the data bits go on with, or None where they end before a whole one.
+#[inline(always)]
+fn find_whole(decoder: &Decoder, window: &mut Window<'_>, bits: u64) -> Option<Found>
+    requires complete { IsComplete decoder.now }
+    requires within { window.old.at ≤ bits }
+    requires there { bits ≤ 8 * length window.old.bytes.now }
+    ensures value { entry_at decoder.now (data_rest window.old.bytes.now bits window.old.at) ≡ option_map (λ found. found.entry) result }
+    ensures len { IfSome result (λ found. slice_index decoder.now found.entry ≡ found.len) }
+    ensures some { IfSome result (λ found. 0 < found.len) }
+    ensures short { IfSome result (λ found. found.len ≤ 58) }
+    ensures have { IfSome result (λ found. found.len ≤ window.new.have) }
+    ensures whole { IfSome result (λ found. window.new.at + found.len ≤ bits) }
+    ensures at { window.new.at ≡ window.old.at }
+    ensures bytes { window.new.bytes.now ≡ window.old.bytes.now }
+{
+    let found = find(decoder, window);
+    if found.len as u64 > bits - window.at {
+        return None;
+    }
+    Some(found)
+}
+
 /// Whether the data bits begin with the code of the run symbol, entry `run`.
 fn begins_with_run(decoder: &Decoder, window: &mut Window<'_>, bits: u64, run: u32) -> bool
     requires complete { IsComplete decoder.now }
@@ -45,11 +67,13 @@ fn begins_with_run(decoder: &Decoder, window: &mut Window<'_>, bits: u64, run: u
     ensures at { window.new.at ≡ window.old.at }
     ensures bytes { window.new.bytes.now ≡ window.old.bytes.now }
 {
-    let found = find(decoder, window);
-    found.len as u64 <= bits - window.at && found.entry == run
+    match find_whole(decoder, window, bits) {
+        Some(found) => found.entry == run,
+        None => false,
+    }
 }
 
-/// What the data bits go on with: a word, so many more of the word before, or no whole token.
+/// What the data bits go on with: a word, more of the word before, or no whole token.
 enum Next {
     Word(u16),
     More(u16),
@@ -73,7 +97,7 @@ fn take_count(window: &mut Window<'_>) -> u16
     count
 }
 
-/// Writes a word so many times.
+/// Writes a word `count` times.
 fn put_copies(words: &mut [u16], at: usize, count: usize, word: u16)
     requires { at + count ≤ length words.old }
     ensures { take (at + count) words.new ≡ take at words.old ++ replicate count word }
@@ -95,10 +119,9 @@ fn next_token(decoder: &Decoder, window: &mut Window<'_>, bits: u64, least: u32,
     ensures within { window.new.at ≤ bits }
     ensures bytes { window.new.bytes.now ≡ window.old.bytes.now }
 {
-    let found = find(decoder, window);
-    if found.len as u64 > bits - window.at {
+    let Some(found) = find_whole(decoder, window, bits) else {
         return Next::Cut;
-    }
+    };
     window.skip(found.len);
     if found.entry != run {
         return Next::Word((least + found.entry) as u16);
@@ -109,7 +132,7 @@ fn next_token(decoder: &Decoder, window: &mut Window<'_>, bits: u64, least: u32,
     Next::More(take_count(window))
 }
 
-/// Fills a slice with the words that the data bits spell, where they are just as many.
+/// Fills a slice with the words that the data bits spell, if they are exactly as many.
 fn fill_words(
     words: &mut [u16],
     window: &mut Window<'_>,
@@ -156,8 +179,8 @@ fn fill_words(
     Ok(())
 }
 
-/// The words that the data bits spell. A code and eight bits behind it stand for 255 words at most, so memory for all
-/// words is asked for only where the bits can spell so many.
+/// The words that the data bits spell. A code and the eight bits after it give at most 255 words, so memory is
+/// asked for only where the bits can spell all words.
 pub(crate) fn data_words(
     alloc: Global,
     bytes: &[u8],

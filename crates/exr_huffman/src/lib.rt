@@ -4,8 +4,6 @@
 mod block;
 mod data;
 mod fault;
-#[cfg(test)]
-mod tests;
 
 pub use block::unpack;
 pub use fault::HufFault;

@@ -26,7 +26,7 @@ merged_root merge = record { weight = merge.weight; least = min merge.first merg
 abbrev pub root_before : Root → Root → Bool
 root_before a b = nat_lt a.weight b.weight || ((a.weight == b.weight) && nat_lt a.least b.least)
 
--- roots with an entry behind them, where it has a weight (own)
+-- roots with an entry after them, where it has a weight (own)
 abbrev pub with_entry : List Root → ℕ → ℕ → List Root
 with_entry roots entry weight = if weight == 0 then roots else roots ++ root_of (leaf weight entry) ∷ []
 

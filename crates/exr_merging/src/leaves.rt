@@ -8,7 +8,7 @@ use crate::root::Root;
 use exr_base::NoMemory;
 use std::alloc::Global;
 
-/// Puts an entry behind the others, where it has a weight.
+/// Adds an entry at the end if it has a weight.
 fn add_entry(entries: &mut Vec<Root>, entry: u32, weight: u32) -> Result<(), NoMemory>
     ensures { OnOk result (entries.new.items ≡ with_entry entries.old.items entry weight) }
 {
@@ -21,7 +21,7 @@ fn add_entry(entries: &mut Vec<Root>, entry: u32, weight: u32) -> Result<(), NoM
     Ok(())
 }
 
-/// Puts the entries from `from` to before `to` behind those before them, where they have a weight.
+/// Adds the entries from `from` to before `to` that have a weight.
 fn add_entries(
     entries: &mut Vec<Root>,
     weights: &[u32],
@@ -66,7 +66,7 @@ fn entry_count(weights: &[u32]) -> u32
     count
 }
 
-/// The entries that have a weight, as they stand. Mostly few have one, so eight without are passed at once.
+/// The entries that have a weight, in their order. Mostly few have one, so eight without are skipped at once.
 fn entries_of(alloc: Global, weights: &[u32]) -> Result<Vec<Root>, NoMemory>
     requires { length weights.now < 2 ^ 31 }
     ensures { IfOk result (λ v. AreAmong v.items (leaves_from 0 weights.now)) }

@@ -7,8 +7,6 @@ mod leaves;
 mod lengths;
 mod merges;
 mod root;
-#[cfg(test)]
-mod tests;
 
 pub use laws::merged_lengths_are_complete;
 pub use lengths::lengths_by_merging;

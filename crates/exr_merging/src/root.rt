@@ -1,4 +1,4 @@
-//! How the code keeps a tree: by its weight and its least entry, by which it also comes before another or behind it.
+//! How the code keeps a tree: by its weight and its least entry, which also give the order of trees.
 
 ghost use Rattle.std.specs.Prelude.{◌≡◌, ◌+◌, ◌^◌, ◌<◌};
 ghost use Rattle.exr_merging.specs.Steps.{root_before, root_key, merge_of, merged_root};

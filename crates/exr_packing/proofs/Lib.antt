@@ -1,4 +1,3 @@
-pub mod Again
 pub mod Weighing
 pub mod Runs
 pub mod Restored

@@ -1,5 +1,6 @@
 -- What was packed is read again: the head, the table, and the tokens.
 use Rattle.std.proofs.Common.{◌≡◌, ℕ, zero, suc, ◌+◌, ◌-◌, ◌*◌, ◌/◌, ◌^◌, ◌<◌, ◌≤◌, Bool, true, false, ltb, List, [], ◌∷◌, ◌++◌, length, take, drop, get_or, replicate, Some, Ok, refl, sym, ap, ◌∙◌, ap₂, subst, arith, append_assoc, append-nil}
+use Rattle.std.specs.List.{AllByRecursion}
 use Rattle.std.proofs.lemmas.Bool.{le-ltb, cond_both}
 use Rattle.std.proofs.lemmas.List.{length-append, length-drop, length-replicate, take_at, drop_at, take-append-drop, get_or-drop}
 use Rattle.std.proofs.lemmas.Nat.{from_le_bytes-to_le_bytes_4}
@@ -11,12 +12,13 @@ use Rattle.exr_encoder.specs.Spelling.{table_bits}
 use Rattle.exr_encoder.proofs.Filled.{bits_of_bytes-bytes_of}
 use Rattle.exr_encoder.proofs.Spelled.{read_again as table_read_again, table_size}
 use Rattle.exr_huffman.specs.Tokens.{Token, word, more, run_entry, words_from, words_of}
-use Rattle.exr_huffman.specs.Blocks.{Block, block_of, number_at, data_words_of, huffman_words_of}
+use Rattle.exr_huffman.specs.Blocks.{Block, Data, block_of, number_at, data_words_of, huffman_words_of}
 use Rattle.exr_huffman.proofs.Progress.{words_from-append, last_from}
 use Rattle.exr_huffman.proofs.Unpacking.{block_is, with_data}
-use Rattle.exr_packing.specs.Spelled.{IsToken, AreTokens, tokens_bits}
+use Rattle.exr_huffman.specs.Joined.{IsToken, AreTokens, tokens_bits, BeginsWith, AreWords}
+use Rattle.exr_huffman.proofs.Bounds.{size_of, size_is}
+use Rattle.exr_huffman.proofs.Joined.{only, word_in_front}
 use Rattle.exr_packing.specs.Packed.{least_of, greatest_of, lengths_of, equals_at, run_tokens, packed_tokens, head_of, block_with, pack_of}
-use Rattle.exr_packing.proofs.Again.{read_again}
 use Rattle.exr_packing.proofs.Weighing.{ordered, lengths_complete, words_coded, run_coded, length-lengths_of, greatest_at}
 use Rattle.exr_packing.proofs.Runs.{equals_at-most, equals_in_front, packed-nothing, packed-word, tokens_size, cost_most}
 
@@ -71,37 +73,54 @@ packed_words_within (suc n) least lengths before (w ∷ words) few =
 pub packed_words : (least : ℕ) (lengths words : List ℕ) → words_of (packed_tokens least lengths words) ≡ words
 packed_words least lengths words = packed_words_within (length words) least lengths 0 words (omega arith)
 
--- ---- each token has its codes
+-- ---- each token has its codes and gives words
 
-tokens-append : (least : ℕ) (lengths : List ℕ) (xs ys : List Token) → AreTokens least lengths xs → AreTokens least lengths ys → AreTokens least lengths (xs ++ ys)
+abbrev IsGiving : ℕ → List ℕ → Token → Type 0
+IsGiving least lengths t = IsToken least lengths t × (0 < size_of t)
+
+abbrev AreGiving : ℕ → List ℕ → List Token → Type 0
+AreGiving least lengths tokens = AllByRecursion (IsGiving least lengths) tokens
+
+are_tokens : (least : ℕ) (lengths : List ℕ) (tokens : List Token) → AreGiving least lengths tokens → AreTokens least lengths tokens
+are_tokens least lengths [] are = tt
+are_tokens least lengths (t ∷ tokens) are = (are.0.0, are_tokens least lengths tokens are.1)
+
+tokens-append : (least : ℕ) (lengths : List ℕ) (xs ys : List Token) → AreGiving least lengths xs → AreGiving least lengths ys → AreGiving least lengths (xs ++ ys)
 tokens-append least lengths [] ys are_xs are_ys = are_ys
 tokens-append least lengths (t ∷ xs) ys are_xs are_ys = (are_xs.0, tokens-append least lengths xs ys are_xs.1 are_ys)
 
-copies_tokens : (least : ℕ) (lengths : List ℕ) (n w : ℕ) → IsToken least lengths (word w) → AreTokens least lengths (replicate n (word w))
+tokens-behind : (least : ℕ) (lengths : List ℕ) (xs ys : List Token) → AreGiving least lengths (xs ++ ys) → AreGiving least lengths ys
+tokens-behind least lengths [] ys are = are
+tokens-behind least lengths (t ∷ xs) ys are = tokens-behind least lengths xs ys are.1
+
+some_words : (least : ℕ) (lengths : List ℕ) (before : ℕ) (tokens : List Token) → AreGiving least lengths tokens → 0 < length tokens → 0 < length (words_from before tokens)
+some_words least lengths before [] are some = absurd (omega arith)
+some_words least lengths before (t ∷ tokens) are some = omega (arith, size_is before t tokens, are.0.1)
+
+copies_tokens : (least : ℕ) (lengths : List ℕ) (n w : ℕ) → IsToken least lengths (word w) → AreGiving least lengths (replicate n (word w))
 copies_tokens least lengths zero w is = tt
-copies_tokens least lengths (suc n) w is = (is, copies_tokens least lengths n w is)
+copies_tokens least lengths (suc n) w is = ((is, omega arith), copies_tokens least lengths n w is)
 
 fewer_bits : (len run count : ℕ) → ltb (len + run + 8) (len * count) ≡ true → 0 < count
 fewer_bits len run zero e = absurd (let nothing : len * zero ≤ len + run + 8 = omega arith in let clash : true ≡ false = sym e ∙ le-ltb (len + run + 8) (len * zero) nothing in cc)
 fewer_bits len run (suc count) e = omega arith
 
-run_are_tokens : (least : ℕ) (lengths : List ℕ) (w count : ℕ) → IsToken least lengths (word w) → 0 < get_or lengths (run_entry lengths) 0 → count ≤ 255 → AreTokens least lengths (run_tokens least lengths w count)
+run_are_tokens : (least : ℕ) (lengths : List ℕ) (w count : ℕ) → IsToken least lengths (word w) → 0 < get_or lengths (run_entry lengths) 0 → count ≤ 255 → AreGiving least lengths (run_tokens least lengths w count)
 unfolding run_tokens
 run_are_tokens least lengths w count is run few =
-    let there : 0 < length lengths = omega (arith, is.1) in
-    cond_both (ltb (get_or lengths (w - least) 0 + get_or lengths (run_entry lengths) 0 + 8) (get_or lengths (w - least) 0 * count)) (word w ∷ more count ∷ []) (replicate (count + 1) (word w)) (AreTokens least lengths)
-    (λ e. (is, ((fewer_bits (get_or lengths (w - least) 0) (get_or lengths (run_entry lengths) 0) count e, omega arith, run, there), tt)))
+    cond_both (ltb (get_or lengths (w - least) 0 + get_or lengths (run_entry lengths) 0 + 8) (get_or lengths (w - least) 0 * count)) (word w ∷ more count ∷ []) (replicate (count + 1) (word w)) (AreGiving least lengths)
+    (λ e. ((is, omega arith), (((omega arith, run), fewer_bits (get_or lengths (w - least) 0) (get_or lengths (run_entry lengths) 0) count e), tt)))
     (λ e. copies_tokens least lengths (count + 1) w is)
 
-packed_are_tokens : (n least : ℕ) (lengths words : List ℕ) → 0 < get_or lengths (run_entry lengths) 0 → ((k : ℕ) → k < length words → IsToken least lengths (word (get_or words k 0))) → length words ≤ n → AreTokens least lengths (packed_tokens least lengths words)
-packed_are_tokens n least lengths [] run all few = subst (AreTokens least lengths) (sym (packed-nothing least lengths)) tt
+packed_are_tokens : (n least : ℕ) (lengths words : List ℕ) → 0 < get_or lengths (run_entry lengths) 0 → ((k : ℕ) → k < length words → IsToken least lengths (word (get_or words k 0))) → length words ≤ n → AreGiving least lengths (packed_tokens least lengths words)
+packed_are_tokens n least lengths [] run all few = subst (AreGiving least lengths) (sym (packed-nothing least lengths)) tt
 packed_are_tokens zero least lengths (w ∷ words) run all few = absurd (omega arith)
 packed_are_tokens (suc n) least lengths (w ∷ words) run all few =
     let count = equals_at w words in
     let rest = drop count words in
     let len = length-drop count words in
     let later : (k : ℕ) → k < length rest → IsToken least lengths (word (get_or rest k 0)) = λ k within. subst (λ v. IsToken least lengths (word v)) (sym (get_or-drop count words k 0)) (all (suc (count + k)) (omega arith)) in
-    subst (AreTokens least lengths) (sym (packed-word least lengths w words)) (tokens-append least lengths (run_tokens least lengths w count) (packed_tokens least lengths rest) (run_are_tokens least lengths w count (all 0 (omega arith)) run (equals_at-most w words).0) (packed_are_tokens n least lengths rest run later (omega arith)))
+    subst (AreGiving least lengths) (sym (packed-word least lengths w words)) (tokens-append least lengths (run_tokens least lengths w count) (packed_tokens least lengths rest) (run_are_tokens least lengths w count (all 0 (omega arith)) run (equals_at-most w words).0) (packed_are_tokens n least lengths rest run later (omega arith)))
 
 starts_with : (least : ℕ) (lengths : List ℕ) (w count : ℕ) → (tail : List Token) × (run_tokens least lengths w count ≡ word w ∷ tail)
 unfolding run_tokens
@@ -119,13 +138,21 @@ first_word least lengths (w ∷ words) some =
     (w, first.0 ++ later, packed-word least lengths w words ∙ ap (λ (ts : List Token). ts ++ later) first.1)
 
 -- the data bits of words are read as the words
-words_read : (least : ℕ) (lengths words : List ℕ) → IsComplete lengths → 0 < length words → AreTokens least lengths (packed_tokens least lengths words) → data_words_of least lengths (length words) (tokens_bits least lengths (packed_tokens least lengths words)) ≡ Ok words
+words_read : (least : ℕ) (lengths words : List ℕ) → IsComplete lengths → 0 < length words → AreGiving least lengths (packed_tokens least lengths words) → data_words_of least lengths (length words) (tokens_bits least lengths (packed_tokens least lengths words)) ≡ Ok words
 words_read least lengths words complete some are =
     let tokens = packed_tokens least lengths words in
     let first = first_word least lengths words some in
-    let read : data_words_of least lengths (length (words_of tokens)) (tokens_bits least lengths tokens) ≡ Ok (words_of tokens) =
-    subst (λ (ts : List Token). data_words_of least lengths (length (words_of ts)) (tokens_bits least lengths ts) ≡ Ok (words_of ts)) (sym first.2) (read_again least lengths complete first.0 first.1 (subst (AreTokens least lengths) first.2 are)) in
-    subst (λ (ws : List ℕ). data_words_of least lengths (length ws) (tokens_bits least lengths tokens) ≡ Ok ws) (packed_words least lengths words) read
+    let d : Data = record { least = least; lengths = lengths; bits = tokens_bits least lengths tokens } in
+    let whole : BeginsWith d tokens [] = record { each = are_tokens least lengths tokens are; joined = sym (append-nil (tokens_bits least lengths tokens)) } in
+    let given : words ≡ words_of tokens = sym (packed_words least lengths words) in
+    let shorter : (front behind : List Token) → tokens ≡ front ++ behind → 0 < length behind → length (words_of front) < length words = λ front behind is last. (
+    let later = words_from (last_from 0 front) behind in
+    let all : words ≡ words_of front ++ later = given ∙ ap words_of is ∙ words_from-append 0 front behind in
+    let more_words = some_words least lengths (last_from 0 front) behind (tokens-behind least lengths front behind (subst (AreGiving least lengths) is are)) last in
+    omega (arith, ap length all, length-append (words_of front) later, more_words)
+    ) in
+    let held : AreWords d (length words) words = record { tokens = tokens; spelled = whole; given = given; counted = refl; no_shorter = shorter } in
+    only d complete (length words) some (Ok words) (word_in_front d complete (length words) some first.0 first.1 [] (subst (λ (ts : List Token). BeginsWith d ts []) first.2 whole), held)
 
 -- ---- the head
 
@@ -176,5 +203,5 @@ restored words some most range =
     let run = run_coded words some most in
     let size = length-lengths_of words some most in
     let tokens = packed_tokens least lengths words in
-    let are : AreTokens least lengths tokens = packed_are_tokens (length words) least lengths words run (λ k within. (let is = coded k within in (is.0, omega (arith, size, greatest_at words k within), is.1))) (omega arith) in
+    let are : AreGiving least lengths tokens = packed_are_tokens (length words) least lengths words run (λ k within. (let is = coded k within in (is.0, omega (arith, size, greatest_at words k within), is.1))) (omega arith) in
     block_restored least (greatest_of words + 1) lengths (tokens_bits least lengths tokens) words known.0 (omega (arith, ordered words some)) (omega arith) (omega (arith, size, ordered words some)) (omega (arith, table_size lengths, size)) (omega (arith, tokens_size least lengths words, cost_most 51 least lengths words known.1, most)) (words_read least lengths words known.0 some are)

@@ -11,7 +11,7 @@ use Rattle.exr_codes.specs.Codes.{IsComplete, code_of, code_number}
 use Rattle.exr_codes.proofs.Intervals.{code_number_below}
 use Rattle.exr_encoder.specs.Writing.{times_bits}
 use Rattle.exr_huffman.specs.Tokens.{Token, word, run_entry, token_bits}
-use Rattle.exr_packing.specs.Spelled.{tokens_bits}
+use Rattle.exr_huffman.specs.Joined.{tokens_bits}
 use Rattle.exr_packing.specs.Packed.{equals_at, run_tokens, packed_within, packed_tokens}
 use Rattle.exr_packing.specs.Costs.{cost_of}
 

@@ -1,5 +1,5 @@
 -- The block that the writer makes of words: the symbols that stand in it with their weights, code lengths by merging,
--- runs where they take fewer bits, and the table and the data bits behind a head of five numbers.
+-- runs where they take fewer bits, and the table and the data bits after a head of five numbers.
 use Rattle.std.specs.Prelude.{ℕ, zero, suc, ◌+◌, ◌-◌, ◌*◌, ◌==◌, nat_lt, if◌then◌else◌, Bool, List, [], ◌∷◌, ◌++◌, length, drop, replicate, slice_index, min, max, fold, count_by}
 use Rattle.std.specs.List.{prefix_len}
 use Rattle.std.specs.Int.{w32, to_le_bytes}
@@ -7,7 +7,7 @@ use Rattle.exr_base.specs.Bits.{bytes_of}
 use Rattle.exr_encoder.specs.Spelling.{table_bits}
 use Rattle.exr_huffman.specs.Tokens.{Token, word, more, run_entry}
 use Rattle.exr_merging.specs.Trees.{values_below, merged_lengths}
-use Rattle.exr_packing.specs.Spelled.{tokens_bits}
+use Rattle.exr_huffman.specs.Joined.{tokens_bits}
 
 -- the least and the greatest of the words, which have 16 bits (own)
 unfoldable pub least_of : List ℕ → ℕ
@@ -34,7 +34,7 @@ run_tokens least lengths w count =
     let len = slice_index lengths (w - least) in
     if nat_lt (len + slice_index lengths (run_entry lengths) + 8) (len * count) then word w ∷ more count ∷ [] else replicate (count + 1) (word w)
 
--- the tokens of words from the front, at most so many times a word with the equal ones behind it (own)
+-- the tokens of words from the front, at most so many times a word with the equal ones after it (own)
 unfoldable pub packed_within : ℕ → ℕ → List ℕ → List ℕ → List Token
 packed_within zero least lengths words = []
 packed_within (suc n) least lengths [] = []

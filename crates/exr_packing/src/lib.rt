@@ -2,13 +2,9 @@
 //! runs where they take fewer bits.
 #![tactic(auto)]
 
-mod laws;
 mod packing;
 mod plan;
-#[cfg(test)]
-mod tests;
 mod words;
 mod writing;
 
-pub use laws::tokens_are_read_again;
 pub use packing::pack;

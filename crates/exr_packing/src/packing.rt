@@ -4,7 +4,7 @@ ghost use Rattle.std.specs.Prelude.{◌≡◌, ℕ, ◌+◌, ◌*◌, ◌/◌, �
 ghost use Rattle.exr_codes.specs.Codes.{IsComplete};
 ghost use Rattle.exr_huffman.specs.Blocks.{huffman_words_of};
 ghost use Rattle.exr_huffman.specs.Tokens.{run_entry};
-ghost use Rattle.exr_packing.specs.Spelled.{tokens_bits};
+ghost use Rattle.exr_huffman.specs.Joined.{tokens_bits};
 ghost use Rattle.exr_packing.specs.Packed.{head_of, block_with, pack_of, lengths_of, packed_tokens};
 ghost use Rattle.exr_packing.specs.Costs.{cost_of, AreCoded};
 

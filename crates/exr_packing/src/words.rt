@@ -1,4 +1,4 @@
-//! What stands in a list of words: the least and the greatest, and how often each word occurs.
+//! The least and the greatest of a list of words, and how often each word occurs.
 
 ghost use Rattle.std.specs.Prelude.{◌≡◌, ℕ, ◌+◌, ◌-◌, ◌^◌, ◌<◌, ◌≤◌, length, slice_index, count_by, ◌==◌, IfOk, vec_len};
 ghost use Rattle.exr_packing.specs.Packed.{least_of, greatest_of, weights_of};
@@ -41,7 +41,7 @@ fn count_words(words: &[u16], least: u16, counts: &mut [u32])
     }
 }
 
-/// Puts the weights of the words from the least to the greatest, and of the run symbol behind them, over zeros.
+/// Writes the weights of the words from the least to the greatest, and of the run symbol after them, over zeros.
 fn put_weights(words: &[u16], least: u16, greatest: u16, weights: &mut [u32])
     requires some { 0 < length words.now }
     requires few { length words.now < 2 ^ 32 }
@@ -55,7 +55,7 @@ fn put_weights(words: &[u16], least: u16, greatest: u16, weights: &mut [u32])
     weights[(greatest - least) as usize + 1] = 1;
 }
 
-/// The weights of the words from the least to the greatest, and of the run symbol behind them.
+/// The weights of the words from the least to the greatest, and of the run symbol after them.
 pub(crate) fn weigh(
     alloc: Global,
     words: &[u16],

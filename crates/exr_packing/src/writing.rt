@@ -5,13 +5,13 @@ ghost use Rattle.exr_base.specs.Bits.{bytes_of};
 ghost use Rattle.exr_codes.specs.Codes.{IsComplete};
 ghost use Rattle.exr_encoder.specs.Writing.{written};
 ghost use Rattle.exr_huffman.specs.Tokens.{run_entry};
-ghost use Rattle.exr_packing.specs.Spelled.{tokens_bits};
+ghost use Rattle.exr_huffman.specs.Joined.{tokens_bits};
 ghost use Rattle.exr_packing.specs.Packed.{equals_at, run_tokens, packed_tokens};
 ghost use Rattle.exr_packing.specs.Costs.{cost_of, AreCoded};
 
 use exr_encoder::{Encoder, Pen, put_times};
 
-/// How many words behind place `at` are equal to the word there, at most 255.
+/// Number of words after place `at` that are equal to the word there, at most 255.
 fn equals_after(words: &[u16], at: usize) -> usize
     requires { at < length words.now }
     ensures { result ≡ equals_at (slice_index words.now at) (drop (at + 1) words.now) }
@@ -28,7 +28,7 @@ fn equals_after(words: &[u16], at: usize) -> usize
     count
 }
 
-/// Writes a word and `count` more of it. There is room for eight bytes more than the word's code takes so many times.
+/// Writes a word and `count` more of it. There must be room for `count + 1` codes of it and eight bytes.
 fn put_words(encoder: &Encoder, pen: &mut Pen, out: &mut [u8], least: u16, word: u16, count: usize)
     requires complete { IsComplete encoder.now }
     requires short { (k : ℕ) → slice_index encoder.now k ≤ 56 }

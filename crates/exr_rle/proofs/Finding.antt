@@ -1,5 +1,5 @@
 -- What sixteen compared lanes say of the places that they were read from.
-use Rattle.std.proofs.Common.{◌≡◌, ◌≢◌, ℕ, zero, suc, ◌+◌, ◌-◌, ◌<◌, ◌≤◌, inl, inr, Bool, true, false, not, ◌&&◌, eqb, List, [], ◌∷◌, length, get_or, drop, min, refl, sym, ap, ◌∙◌, arith}
+use Rattle.std.proofs.Common.{◌≡◌, ◌≢◌, ℕ, zero, suc, ◌+◌, ◌-◌, ◌<◌, ◌≤◌, inl, inr, Bool, true, false, not, ◌&&◌, eqb, List, [], ◌∷◌, length, get_or, drop, min, refl, sym, ap, ◌∙◌, subst, arith}
 use Rattle.std.specs.List.{prefix_len}
 use Rattle.std.proofs.lemmas.Bool.{cases_lt, cases_eq, eq-eqb, ne_eqb, eqb-true, eqb-false, false≢true}
 use Rattle.std.proofs.lemmas.List.{drop_more, length-drop, get_or-drop, drop-drop}
@@ -62,6 +62,21 @@ plain_len_ge (byte ∷ rest) (suc n) within plain =
     let here : begins_three (byte ∷ rest) ≡ false = plain 0 (omega arith) in
     rw here (let more = plain_len_ge rest n (omega arith) (λ k lt. plain (suc k) (omega arith)) in omega arith)
 
+not_false : (b : Bool) → not b ≡ false → b ≡ true
+not_false true is = refl
+not_false false is = cc
+
+not_true : (b : Bool) → not b ≡ true → b ≡ false
+not_true true is = cc
+not_true false is = refl
+
+-- what holds at the first places from one on, and at those behind them, holds at all
+pub at_more : (holds : ℕ → Type 0) (at count more : ℕ) → ((k : ℕ) → k < count → holds (at + k)) → ((k : ℕ) → k < more → holds (at + count + k)) → (k : ℕ) → k < count + more → holds (at + k)
+at_more holds at count more earlier later k lt = elim (cases_lt k count) [
+  | inl before ↦ earlier k before
+  | inr here ↦ let place : at + count + (k - count) ≡ at + k = omega arith in subst holds place (later (k - count) (omega arith))
+]
+
 -- what a search for another byte found
 pub record FindsOther (bytes : List ℕ) (at byte found : ℕ) : Type 0 where
   pub within : found ≤ 16
@@ -74,14 +89,6 @@ finds_other bytes at byte found room counted = record {
   equal = λ k lt. eqb-true _ byte (not_false _ (run_in_chunk_fails (λ x. not (eqb x byte)) bytes at 16 found 0 room counted (at + k) (omega arith) (omega arith)));
   other = λ lt. eqb-false _ byte (not_true _ (run_in_chunk_stops (λ x. not (eqb x byte)) bytes at 16 found 0 room counted lt));
 }
-  where
-    not_false : (b : Bool) → not b ≡ false → b ≡ true
-    not_false true is = refl
-    not_false false is = cc
-
-    not_true : (b : Bool) → not b ≡ true → b ≡ false
-    not_true true is = cc
-    not_true false is = refl
 
 -- what a search for a run found
 pub record FindsRun (bytes : List ℕ) (at found : ℕ) : Type 0 where
@@ -139,14 +146,6 @@ finds_run bytes at found room counted =
       plain = λ k lt. sym (lane_of_run bytes at k room (omega arith)) ∙ not_true _ (prefix_len_passes (λ x. not (eqb x 0)) far k 0 (omega arith));
       run = λ lt. sym (lane_of_run bytes at found room lt) ∙ ap (λ k. eqb (get_or far k 0) 0) counted ∙ not_false _ (prefix_len_stops (λ x. not (eqb x 0)) far 0 (omega arith));
     }
-  where
-    not_false : (b : Bool) → not b ≡ false → b ≡ true
-    not_false true is = refl
-    not_false false is = cc
-
-    not_true : (b : Bool) → not b ≡ true → b ≡ false
-    not_true true is = cc
-    not_true false is = refl
 
 -- a run that has so many bytes, and then another byte, the end or no room
 run_len-drop : (bytes : List ℕ) (at : ℕ) → at < length bytes → run_len (drop at bytes) ≡ min 128 (1 + prefix_len (λ x. eqb x (get_or bytes at 0)) (drop (at + 1) bytes))

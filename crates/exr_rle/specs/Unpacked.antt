@@ -28,7 +28,7 @@ pub record Unpacks (packed : List ℕ) (count : ℕ) (raw : List ℕ) : Type 0 w
   pub counted : length bytes ≡ count
   pub restored : raw ≡ raw_of bytes
 
--- the bytes of the tokens that stand here, behind so many bytes of a literal that has begun; none where no tokens do
+-- the bytes of the tokens that stand here, after so many bytes of a literal that has begun; none where no tokens do
 unfoldable pub bytes_spelled : ℕ → List ℕ → Option (List ℕ)
 bytes_spelled zero [] = Some []
 bytes_spelled zero (count ∷ []) = None

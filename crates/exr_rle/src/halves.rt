@@ -5,7 +5,7 @@ ghost use Rattle.exr_rle.specs.Packed.{differences_of, evens_of, odds_of};
 
 use std::simd::prelude::*;
 
-/// The bytes at even places, and behind them those at odd places.
+/// The bytes at even places, followed by those at odd places.
 pub(crate) fn take_apart(raw: &[u8], into: &mut [u8])
     requires { length into.old ≡ length raw.now }
     ensures { into.new ≡ evens_of raw.now ++ odds_of raw.now }

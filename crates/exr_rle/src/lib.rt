@@ -1,5 +1,5 @@
-//! Run-length packing of raw data, and back: `unpack` gives exactly the raw bytes that packed data stands for or says
-//! that it stands for none, `pack` gives exactly the writer's packed data, and what `pack` gave unpacks to the same bytes.
+//! Run-length packing of raw data, and back: `unpack` gives exactly the raw bytes of packed data, or says that it is
+//! broken; `pack` gives exactly the writer's packed data, and what `pack` gave unpacks to the same bytes.
 #![tactic(auto)]
 
 mod broken;
@@ -13,6 +13,3 @@ mod unpacking;
 pub use broken::RleBroken;
 pub use packing::pack;
 pub use unpacking::unpack;
-
-#[cfg(test)]
-mod tests;

@@ -11,9 +11,9 @@ use crate::tokens::put_copy;
 use exr_base::NoMemory;
 use std::alloc::Global;
 
-/// The packed data of raw bytes, with the writer's choice of runs: where three equal bytes stand a run as long as can
-/// be, up to 128, else literals up to the next three or the end, at most 127. It may be longer than the raw data, by
-/// less than a byte in 127 and one more (own).
+/// Packs raw bytes (own): three equal bytes begin a run, as long as possible up to 128; other bytes are literals up to
+/// the next run or the end, at most 127 at a time. The result may be longer than the raw data, by at most one byte in
+/// 127 and one more.
 pub fn pack(alloc: Global, raw: &[u8]) -> Result<Vec<u8>, NoMemory>
     ensures exact { IfOk result (λ packed. packed.items ≡ rle_pack_of raw.now) }
     // What was packed unpacks to the same bytes.

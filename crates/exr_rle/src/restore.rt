@@ -19,7 +19,7 @@ pub(crate) fn restore(bytes: &mut [u8])
     restore_rest(bytes, at, before[15]);
 }
 
-/// Sixteen bytes at once, behind a restored byte, which is in each lane of `before`. Answers the last one of them so.
+/// Restores sixteen bytes after a restored byte, which is in each lane of `before`. Gives the last of them in each lane.
 fn restore_sixteen(bytes: &mut [u8], at: usize, before: u8x16) -> u8x16
     requires room { at + 16 ≤ length bytes.old }
     requires lanes { before ≡ replicate 16 (slice_index before 0) }
@@ -90,7 +90,7 @@ fn with_eighth(lanes: u8x16) -> u8x16
         )
 }
 
-/// The bytes from a place on, one by one, behind a restored byte.
+/// Restores the bytes from `from` on, one by one, after a restored byte.
 fn restore_rest(bytes: &mut [u8], from: usize, before: u8)
     requires { from ≤ length bytes.old }
     ensures restored { (k : ℕ) → from + k < length bytes.old → slice_index bytes.new (from + k) ≡ restored_after before (drop from bytes.old) (k + 1) }

@@ -5,7 +5,7 @@ ghost use Rattle.exr_rle.specs.Packed.{begins_three, plain_len, run_len};
 
 use std::simd::prelude::*;
 
-/// Whether three equal bytes stand at a place.
+/// Whether three equal bytes begin at `at`.
 pub(crate) fn is_run(bytes: &[u8], at: usize) -> bool
     requires { at ≤ length bytes.now }
     ensures { result ≡ begins_three (drop at bytes.now) }
@@ -53,7 +53,7 @@ fn equal_in(bytes: &[u8], at: usize, byte: u8) -> usize
     }
 }
 
-/// How many bytes stand at a place before the next run, at most 127.
+/// Number of bytes from `at` on before the next run, at most 127.
 pub(crate) fn literal_at(bytes: &[u8], at: usize) -> usize
     requires { at < length bytes.now }
     ensures { result ≡ min 127 (plain_len (drop at bytes.now)) }

@@ -1,9 +1,9 @@
-//! The tokens of packed data: whether they stand for so many bytes, and those bytes.
+//! The tokens of packed data: whether they give `raw` bytes, and those bytes.
 
 ghost use Rattle.std.specs.Prelude.{◌≡◌, ◌+◌, ◌-◌, ◌≤◌, ◌++◌, nat_lt, if◌then◌else◌, length, take, drop, replicate, IsTrue, Some};
 ghost use Rattle.exr_rle.specs.Unpacked.{bytes_spelled, counts};
 
-/// Whether packed data spells tokens that stand for so many bytes. It is walked without memory.
+/// Whether packed data is a list of whole tokens that give `raw` bytes. No memory is taken.
 pub(crate) fn spells(packed: &[u8], raw: usize) -> bool
     ensures { result ≡ counts (bytes_spelled 0 packed.now) raw }
 {
@@ -20,7 +20,7 @@ pub(crate) fn spells(packed: &[u8], raw: usize) -> bool
     left == 0
 }
 
-/// How many bytes a token with this count byte takes, and how many it stands for.
+/// Number of bytes that a token with this count byte takes, and that it gives.
 fn lens_of(count: u8) -> (usize, usize)
     ensures taken { result.0 ≡ (if nat_lt count 128 then 2 else 257 - count) }
     ensures given { result.1 ≡ (if nat_lt count 128 then count + 1 else 256 - count) }
@@ -33,7 +33,7 @@ fn lens_of(count: u8) -> (usize, usize)
     }
 }
 
-/// The bytes that the tokens stand for.
+/// Writes the bytes that the tokens give.
 pub(crate) fn expand(packed: &[u8], into: &mut [u8])
     requires { IsTrue (counts (bytes_spelled 0 packed.now) (length into.old)) }
     ensures { bytes_spelled 0 packed.now ≡ Some into.new }
@@ -55,7 +55,7 @@ pub(crate) fn expand(packed: &[u8], into: &mut [u8])
     }
 }
 
-/// Writes a byte so many times. What lies behind may change too: short runs are written as 32 bytes where there is room.
+/// Writes a byte `count` times. Bytes after it may change too: short runs are written as 32 bytes where there is room.
 fn put_run(into: &mut [u8], to: usize, byte: u8, count: usize)
     requires { to + count ≤ length into.old }
     ensures { take (to + count) into.new ≡ take to into.old ++ replicate count byte }
@@ -67,7 +67,7 @@ fn put_run(into: &mut [u8], to: usize, byte: u8, count: usize)
     }
 }
 
-/// Copies so many bytes. What lies behind may change too: few bytes are copied as 32 where there is room.
+/// Copies `count` bytes. Bytes after them may change too: few bytes are copied as 32 where there is room.
 pub(crate) fn put_copy(into: &mut [u8], to: usize, bytes: &[u8], from: usize, count: usize)
     requires room { to + count ≤ length into.old }
     requires there { from + count ≤ length bytes.now }

@@ -12,13 +12,13 @@ use crate::tokens::{expand, spells};
 use exr_base::Refusal;
 use std::alloc::Global;
 
-/// The raw bytes, so many, that packed data stands for. `RleBroken` comes exactly where the data is not the spelling of
-/// a list of tokens that stand for so many bytes: any choice of runs is accepted, and all data must be used up (own).
+/// Unpacks `raw` bytes (own). `RleBroken` comes exactly where the packed data is not a list of whole tokens that give
+/// `raw` bytes: any choice of runs is accepted, and all packed data must be used up.
 /// Broken data takes no memory; else at most twice the raw bytes are held.
 pub fn unpack(alloc: Global, packed: &[u8], raw: usize) -> Result<Vec<u8>, Refusal<RleBroken>>
-    // What is given is what the tokens stand for.
+    // The result is what the tokens give.
     ensures found { IfOk result (λ bytes. Unpacks packed.now raw bytes.items) }
-    // Tokens for so many bytes are unpacked, unless memory runs out.
+    // Tokens that give `raw` bytes are unpacked, unless memory runs out.
     ensures only { (bytes : List ℕ) → IsRleSpelling packed.now bytes → length bytes ≡ raw → Gives (λ v. v.items) result (Ok (raw_of bytes)) }
     ensures exact { Gives (λ bytes. bytes.items) result (rle_of packed.now raw) }
 {
@@ -37,7 +37,7 @@ fn unpack_exactly(alloc: Global, packed: &[u8], raw: usize) -> Result<Vec<u8>, R
     Ok(bytes)
 }
 
-/// The raw bytes that packed data stands for, where the tokens were found to stand for so many.
+/// The raw bytes of packed data whose tokens were found to give as many as there is room for.
 fn unpack_counted(packed: &[u8], halves: &mut [u8], raw: &mut [u8])
     requires counted { IsTrue (counts (bytes_spelled 0 packed.now) (length halves.old)) }
     requires room { length raw.old ≡ length halves.old }

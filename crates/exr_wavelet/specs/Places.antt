@@ -7,7 +7,7 @@ use Rattle.exr_wavelet.specs.Level.{Matrix}
 abbrev pub place_of : Grid → ℕ → ℕ → ℕ
 place_of g x y = g.first + (y * g.nx + x) * g.step
 
--- two lines of so many words, one behind the other
+-- two lines of so many words, one after the other
 abbrev pub two_lines : ℕ → Grid
 two_lines nx = record { first = 0; nx = nx; ny = 2; step = 1 }
 

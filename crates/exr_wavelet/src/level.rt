@@ -8,7 +8,7 @@ ghost use Rattle.exr_wavelet.specs.Places.{place_of, matrix_of, IsWithin, Become
 use crate::lines::step_both;
 use crate::pair::{Square, Way, step, step_square};
 
-/// Where the words of a matrix stand: the first one, how many columns and lines there are, and how far words are apart.
+/// The places of the words of a matrix in a slice: the first, the number of columns and lines, and the step between words.
 #[derive(Clone, Copy)]
 pub(crate) struct Grid {
     pub(crate) first: usize,
@@ -18,7 +18,7 @@ pub(crate) struct Grid {
 }
 
 impl Grid {
-    /// Where the word in column x of line y stands, which is in a slice of so many words.
+    /// The place of the word in column x of line y, which is below `len`.
     #[inline(always)]
     pub(crate) fn place(self, x: usize, y: usize, len: usize) -> usize
         requires within { IsWithin self len }
@@ -114,7 +114,7 @@ fn step_squares(words: &mut [u16], grid: Grid, y: usize, p: usize, way: Way, max
     }
 }
 
-/// Steps the squares of two lines at the first level, where words stand side by side.
+/// Steps the squares of two lines at the first level, where words are side by side.
 #[inline(always)]
 fn step_side_by_side(words: &mut [u16], grid: Grid, y: usize, way: Way, max: u16)
     requires within { IsWithin grid (length words.old) }

@@ -9,6 +9,3 @@ mod pair;
 mod wave;
 
 pub use wave::{decode, encode};
-
-#[cfg(test)]
-mod tests;

@@ -1,4 +1,4 @@
-//! The squares of two lines of words that stand side by side: most of the work, in a loop that a compiler turns into
+//! The squares of two lines of words that are side by side: most of the work, in a loop that a compiler turns into
 //! vectors, since it is handed the two lines as slices of their own.
 
 ghost use Rattle.std.specs.Prelude.{◌≡◌, ◌+◌, ◌*◌, ◌<◌, ◌++◌, length};
@@ -8,7 +8,7 @@ ghost use Rattle.exr_wavelet.specs.Places.{two_lines, matrix_of, Becomes};
 
 use crate::pair::{Square, Way, step_square};
 
-/// Steps the squares of two lines of so many words, one line behind the other.
+/// Steps the squares of two lines of `nx` words, one line after the other.
 pub(crate) fn step_both(lines: &mut [u16], nx: usize, way: Way, max: u16)
     requires { length lines.old ≡ 2 * nx }
     ensures { Becomes lines.old lines.new (two_lines nx) (squares_along way max nx 1 0 (matrix_of lines.old (two_lines nx))) }
@@ -17,7 +17,7 @@ pub(crate) fn step_both(lines: &mut [u16], nx: usize, way: Way, max: u16)
     step_lines(top, bottom, nx, way, max);
 }
 
-/// The same of two lines that stand apart. It is a call of its own, so that a compiler sees them as apart.
+/// The same of two lines that are slices of their own. It is not inlined, so that a compiler sees them as apart.
 #[inline(never)]
 fn step_lines(top: &mut [u16], bottom: &mut [u16], nx: usize, way: Way, max: u16)
     requires top { length top.old ≡ nx }

@@ -27,7 +27,7 @@ fn half_sum(a: u16, b: u16) -> u16
     ((u32::from(a) + u32::from(b)) / 2) as u16
 }
 
-/// The half of a sum of words with sign, rounded down. Each is first made as wide as a sum of two wants, which is one
+/// The half of a sum of words with sign, rounded down. Each is first widened so that the sum fits, which is one
 /// instruction in this form.
 #[inline(always)]
 fn signed_half_sum(a: u16, b: u16) -> u16

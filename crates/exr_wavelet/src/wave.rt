@@ -8,7 +8,7 @@ ghost use Rattle.exr_wavelet.specs.Places.{words_of, matrix_of, IsWithin, Become
 use crate::level::{Grid, step_level};
 use crate::pair::Way;
 
-/// The wavelet on a matrix of `nx` columns and `ny` lines of which word (x, y) stands at `first + (y * nx + x) * step`.
+/// The wavelet on a matrix of `nx` columns and `ny` lines of which word (x, y) is at `first + (y * nx + x) * step`.
 /// `max` is the greatest word that the matrix is known to have: it chooses the pair step. No memory is taken (own).
 pub fn encode(words: &mut [u16], first: usize, nx: usize, ny: usize, step: usize, max: u16)
     requires spread { 1 ≤ step }

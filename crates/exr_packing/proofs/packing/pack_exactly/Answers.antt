@@ -2,7 +2,7 @@ use Rattle.std.proofs.Common.{◌≡◌, ℕ, ◌+◌, List, [], ◌++◌, lengt
 use Rattle.std.proofs.lemmas.List.{drop_all, take_all}
 use Rattle.exr_base.specs.Bits.{bytes_of}
 use Rattle.exr_encoder.specs.Spelling.{table_bits}
-use Rattle.exr_packing.specs.Spelled.{tokens_bits}
+use Rattle.exr_huffman.specs.Joined.{tokens_bits}
 use Rattle.exr_encoder.proofs.Spelled.{table_size}
 use Rattle.exr_packing.specs.Packed.{least_of, greatest_of, lengths_of, packed_tokens, block_with, pack_of}
 use Rattle.exr_packing.proofs.Weighing.{lengths_complete, words_coded, run_coded, cost_is, length-lengths_of}

@@ -1,7 +1,7 @@
 use Rattle.std.proofs.Common.{◌≡◌, ℕ, ◌+◌, ◌/◌, ◌++◌, List, length, take, sym, ap, ap₂, ◌∙◌, arith, append_assoc}
 use Rattle.std.proofs.Math.Seq.{take-append-add}
 use Rattle.exr_packing.specs.Packed.{head_of, block_with, packed_tokens}
-use Rattle.exr_packing.specs.Spelled.{tokens_bits}
+use Rattle.exr_huffman.specs.Joined.{tokens_bits}
 use Rattle.exr_packing.proofs.Restored.{length-head_of}
 use Rattle.exr_packing.proofs.packing.write_block.Goals as goal
 

@@ -3,7 +3,7 @@ use Rattle.std.proofs.lemmas.List.{drop_all}
 use Rattle.exr_base.specs.Bits.{bytes_of}
 use Rattle.exr_encoder.specs.Writing.{written}
 use Rattle.exr_encoder.proofs.Pens.{written_nothing, length-written}
-use Rattle.exr_packing.specs.Spelled.{tokens_bits}
+use Rattle.exr_huffman.specs.Joined.{tokens_bits}
 use Rattle.exr_packing.specs.Packed.{run_tokens, packed_tokens}
 use Rattle.exr_packing.proofs.Runs.{cost_at, count_within, packed_at, packed-nothing, tokens_bits-append}
 use Rattle.exr_packing.proofs.writing.write_words.Goals as goal

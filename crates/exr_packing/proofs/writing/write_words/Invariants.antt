@@ -1,6 +1,6 @@
 use Rattle.std.proofs.Common.{◌≡◌, ◌+◌, ◌-◌, ◌*◌, ◌≤◌, ◌++◌, length, drop}
 use Rattle.exr_encoder.specs.Writing.{written}
-use Rattle.exr_packing.specs.Spelled.{tokens_bits}
+use Rattle.exr_huffman.specs.Joined.{tokens_bits}
 use Rattle.exr_packing.specs.Packed.{packed_tokens}
 use Rattle.exr_packing.specs.Costs.{cost_of}
 use Rattle.exr_packing.proofs.writing.write_words.Given as goal

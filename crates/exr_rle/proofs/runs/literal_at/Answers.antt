@@ -1,18 +1,7 @@
-use Rattle.std.proofs.Common.{◌≡◌, ℕ, ◌+◌, ◌-◌, ◌<◌, ◌≤◌, inl, inr, List, false, drop, sym, ap, ◌∙◌, arith}
-use Rattle.std.proofs.lemmas.Bool.{cases_lt}
+use Rattle.std.proofs.Common.{◌≡◌, ◌+◌, false, drop, sym, ap, ◌∙◌, arith}
 use Rattle.exr_rle.specs.Packed.{begins_three}
-use Rattle.exr_rle.proofs.Finding.{literal_ends, literal_full}
+use Rattle.exr_rle.proofs.Finding.{at_more, literal_ends, literal_full}
 use Rattle.exr_rle.proofs.runs.literal_at.Goals as goal
-
-more_plain : (bytes : List ℕ) (at count more : ℕ) → ((k : ℕ) → k < count → begins_three (drop (at + k) bytes) ≡ false) → ((k : ℕ) → k < more → begins_three (drop (at + count + k) bytes) ≡ false)
-    → (k : ℕ) → k < count + more → begins_three (drop (at + k) bytes) ≡ false
-more_plain bytes at count more earlier later k lt = elim (cases_lt k count) [
-  | inl before ↦ earlier k before
-  | inr here ↦ ap (λ i. begins_three (drop i bytes)) (place at count k here) ∙ later (k - count) (omega arith)
-]
-  where
-    place : (at count k : ℕ) → count ≤ k → at + k ≡ at + count + (k - count)
-    place at count k le = omega arith
 
 pub returns-then-more-lt16 : goal.returns-then-more-lt16
 returns-then-more-lt16 c =
@@ -21,14 +10,14 @@ returns-then-more-lt16 c =
     let more = c.plain_in-more in
     let place : at + (c.sixteens.count + more.result) ≡ at + c.sixteens.count + more.result = omega arith in
     sym (literal_ends bytes at (c.sixteens.count + more.result) c.requires (omega arith) (omega arith)
-    (more_plain bytes at c.sixteens.count more.result c.sixteens.invariant.plain more.ensures.plain)
+    (at_more (λ i. begins_three (drop i bytes) ≡ false) at c.sixteens.count more.result c.sixteens.invariant.plain more.ensures.plain)
     (λ lt. ap (λ i. begins_three (drop i bytes)) place ∙ more.ensures.run c.if-more-lt16.true))
 
 pub sixteens-preserved : goal.sixteens-preserved
 sixteens-preserved c = record {
   few = omega arith;
   within = omega arith;
-  plain = more_plain c.args.bytes.now c.args.at c.sixteens.count c.plain_in-more.result c.sixteens.invariant.plain c.plain_in-more.ensures.plain;
+  plain = at_more (λ i. begins_three (drop i c.args.bytes.now) ≡ false) c.args.at c.sixteens.count c.plain_in-more.result c.sixteens.invariant.plain c.plain_in-more.ensures.plain;
 }
 
 pub returns-else-not-is_run : goal.returns-else-not-is_run

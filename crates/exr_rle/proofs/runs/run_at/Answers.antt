@@ -1,17 +1,6 @@
-use Rattle.std.proofs.Common.{◌≡◌, ℕ, ◌+◌, ◌-◌, ◌<◌, ◌≤◌, inl, inr, List, get_or, sym, ap, ◌∙◌, arith}
-use Rattle.std.proofs.lemmas.Bool.{cases_lt}
-use Rattle.exr_rle.proofs.Finding.{run_len_ends, run_len_full}
+use Rattle.std.proofs.Common.{◌≡◌, ◌+◌, get_or, sym, ap, ◌∙◌, arith}
+use Rattle.exr_rle.proofs.Finding.{at_more, run_len_ends, run_len_full}
 use Rattle.exr_rle.proofs.runs.run_at.Goals as goal
-
-more_equal : (bytes : List ℕ) (at count more : ℕ) → ((k : ℕ) → k < count → get_or bytes (at + k) 0 ≡ get_or bytes at 0) → ((k : ℕ) → k < more → get_or bytes (at + count + k) 0 ≡ get_or bytes at 0)
-    → (k : ℕ) → k < count + more → get_or bytes (at + k) 0 ≡ get_or bytes at 0
-more_equal bytes at count more earlier later k lt = elim (cases_lt k count) [
-  | inl before ↦ earlier k before
-  | inr here ↦ ap (λ i. get_or bytes i 0) (place at count k here) ∙ later (k - count) (omega arith)
-]
-  where
-    place : (at count k : ℕ) → count ≤ k → at + k ≡ at + count + (k - count)
-    place at count k le = omega arith
 
 pub returns-then-more-lt16 : goal.returns-then-more-lt16
 returns-then-more-lt16 c =
@@ -20,7 +9,7 @@ returns-then-more-lt16 c =
     let more = c.equal_in-more in
     let place : at + (c.sixteens.count + more.result) ≡ at + c.sixteens.count + more.result = omega arith in
     sym (run_len_ends bytes at (c.sixteens.count + more.result) c.requires (omega arith) (omega arith) (omega arith)
-    (more_equal bytes at c.sixteens.count more.result c.sixteens.invariant.equal more.ensures.equal)
+    (at_more (λ i. get_or bytes i 0 ≡ get_or bytes at 0) at c.sixteens.count more.result c.sixteens.invariant.equal more.ensures.equal)
     (λ lt same. more.ensures.other c.if-more-lt16.true (ap (λ i. get_or bytes i 0) (sym place) ∙ same)))
 
 pub sixteens-preserved : goal.sixteens-preserved
@@ -28,7 +17,7 @@ sixteens-preserved c = record {
   some = omega arith;
   few = omega arith;
   within = omega arith;
-  equal = more_equal c.args.bytes.now c.args.at c.sixteens.count c.equal_in-more.result c.sixteens.invariant.equal c.equal_in-more.ensures.equal;
+  equal = at_more (λ i. get_or c.args.bytes.now i 0 ≡ get_or c.args.bytes.now c.args.at 0) c.args.at c.sixteens.count c.equal_in-more.result c.sixteens.invariant.equal c.equal_in-more.ensures.equal;
 }
 
 pub returns-else-bytes-at : goal.returns-else-bytes-at

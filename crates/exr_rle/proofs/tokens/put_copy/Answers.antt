@@ -1,6 +1,6 @@
 use Rattle.std.proofs.Common.{◌≡◌, ◌+◌, ◌-◌, ◌++◌, length, take, drop, ap, ◌∙◌, arith}
 use Rattle.std.proofs.lemmas.List.{take-take, length-take, length-drop}
-use Rattle.exr_rle.proofs.Puts.{take_front_put_mid}
+use Rattle.exr_base.proofs.Written.{take_front_put_mid}
 use Rattle.exr_rle.proofs.tokens.put_copy.Goals as goal
 
 pub returns-then-into-to-ge32 : goal.returns-then-into-to-ge32

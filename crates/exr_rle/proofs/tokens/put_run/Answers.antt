@@ -1,6 +1,6 @@
 use Rattle.std.proofs.Common.{◌≡◌, ◌+◌, ◌-◌, ◌++◌, length, take, drop, replicate, ap, ◌∙◌, arith, rules}
 use Rattle.std.proofs.lemmas.List.{take-replicate, length-replicate, length-take, length-drop}
-use Rattle.exr_rle.proofs.Puts.{take_front_put_mid}
+use Rattle.exr_base.proofs.Written.{take_front_put_mid}
 use Rattle.exr_rle.proofs.tokens.put_run.Goals as goal
 
 pub returns-then-into-to-ge32 : goal.returns-then-into-to-ge32
