@@ -1,0 +1,4 @@
+pub mod Grid
+pub mod Joined
+pub mod Moves
+pub mod Orders

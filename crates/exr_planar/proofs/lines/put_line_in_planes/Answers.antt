@@ -1,0 +1,60 @@
+-- Each row has its place, and the rows of the channels so far are there.
+use Rattle.std.proofs.Common.{arith}
+use Rattle.exr_planar.specs.Planar.{row_of, planar_row_of}
+use Rattle.exr_planar.proofs.Moves.{is_at, moved_begun, line_starts, line_ends, row_in_plane}
+use Rattle.exr_planar.proofs.lines.put_line_in_planes.Goals as goal
+
+pub loop-channel-init : goal.loop-channel-init
+loop-channel-init c = record {
+  at = line_starts c.args.shape.now.channels.now c.args.shape.now.region c.args.line c.args.start c.requires.start;
+  plane = omega arith;
+  moved = moved_begun (row_of c.args.shape.now.channels.now c.args.shape.now.region) (planar_row_of c.args.shape.now.channels.now c.args.shape.now.region) c.args.shape.now.channels.now c.args.shape.now.region c.args.line c.args.raw.now c.args.into.now;
+}
+
+pub overflow_add-plane : goal.overflow_add-plane
+overflow_add-plane c =
+    let here = is_at c.args.shape.now.channels.now c.args.shape.now.region c.args.line c.loop-channel.channel-index c.loop-channel.at c.loop-channel.plane c.channel-item.result c.rows_at-rows.result c.loop-channel-test.true c.requires.line c.channel-item.is c.rows_at-rows.ensures c.loop-channel.invariant.at c.loop-channel.invariant.plane in
+    let room = here.planar_room in
+    let long = c.requires.raw in
+    omega arith
+
+pub copy_row-requires-clause-there : goal.copy_row-requires-clause-there
+copy_row-requires-clause-there c =
+    let here = is_at c.args.shape.now.channels.now c.args.shape.now.region c.args.line c.loop-channel.channel-index c.loop-channel.at c.loop-channel.plane c.channel-item.result c.rows_at-rows.result c.loop-channel-test.true c.requires.line c.channel-item.is c.rows_at-rows.ensures c.loop-channel.invariant.at c.loop-channel.invariant.plane in
+    let room = here.raw_room in
+    let long = c.requires.raw in
+    omega arith
+
+pub copy_row-requires-clause-room : goal.copy_row-requires-clause-room
+copy_row-requires-clause-room c =
+    let here = is_at c.args.shape.now.channels.now c.args.shape.now.region c.args.line c.loop-channel.channel-index c.loop-channel.at c.loop-channel.plane c.channel-item.result c.rows_at-rows.result c.loop-channel-test.true c.requires.line c.channel-item.is c.rows_at-rows.ensures c.loop-channel.invariant.at c.loop-channel.invariant.plane in
+    let room = here.planar_room in
+    let long = c.requires.into in
+    let kept = c.loop-channel.auto.into in
+    omega arith
+
+pub overflow_add-at : goal.overflow_add-at
+overflow_add-at c =
+    let here = is_at c.args.shape.now.channels.now c.args.shape.now.region c.args.line c.loop-channel.channel-index c.loop-channel.at c.loop-channel.plane c.channel-item.result c.rows_at-rows.result c.loop-channel-test.true c.requires.line c.channel-item.is c.rows_at-rows.ensures c.loop-channel.invariant.at c.loop-channel.invariant.plane in
+    let room = here.raw_room in
+    let long = c.requires.raw in
+    omega arith
+
+pub overflow_add-plane-in-loop-channel : goal.overflow_add-plane-in-loop-channel
+overflow_add-plane-in-loop-channel c =
+    let here = is_at c.args.shape.now.channels.now c.args.shape.now.region c.args.line c.loop-channel.channel-index c.loop-channel.at c.loop-channel.plane c.channel-item.result c.rows_at-rows.result c.loop-channel-test.true c.requires.line c.channel-item.is c.rows_at-rows.ensures c.loop-channel.invariant.at c.loop-channel.invariant.plane in
+    let room = here.plane_room in
+    let long = c.requires.raw in
+    omega arith
+
+pub loop-channel-preserved : goal.loop-channel-preserved
+loop-channel-preserved c =
+    let here = is_at c.args.shape.now.channels.now c.args.shape.now.region c.args.line c.loop-channel.channel-index c.loop-channel.at c.loop-channel.plane c.channel-item.result c.rows_at-rows.result c.loop-channel-test.true c.requires.line c.channel-item.is c.rows_at-rows.ensures c.loop-channel.invariant.at c.loop-channel.invariant.plane in
+    record {
+      at = here.next;
+      plane = here.next_plane;
+      moved = row_in_plane c.args.shape.now.channels.now c.args.shape.now.region c.args.line c.loop-channel.channel-index c.loop-channel.at c.loop-channel.plane c.rows_at-rows.result c.args.raw.now c.args.into.now c.loop-channel.into c.copy_row.new.into here c.loop-channel-test.true c.requires.line c.requires.raw c.requires.into c.copy_row.ensures c.loop-channel.invariant.moved;
+    }
+
+pub returns-clause-next : goal.returns-clause-next
+returns-clause-next c = line_ends c.args.shape.now.channels.now c.args.shape.now.region c.args.line c.loop-channel.channel-index c.loop-channel.at c.loop-channel-test.false c.loop-channel.invariant.at
