@@ -1,0 +1,12 @@
+pub mod Passing
+pub mod Reading
+pub mod Numbers
+pub mod Marking
+pub mod Turning
+pub mod Cutting
+pub mod Mapping
+pub mod Spelling
+pub mod Sizes
+pub mod Restoring
+pub mod Unpacked
+pub mod Repacked

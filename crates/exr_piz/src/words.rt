@@ -1,0 +1,30 @@
+//! Words, and the two bytes that each is stored in, the low one first.
+
+ghost use Rattle.std.specs.Prelude.{◌≡◌, ◌*◌, length, map, slice_index};
+ghost use Rattle.exr_piz.specs.Words.{words_from, bytes_from};
+
+use crate::values::value_of;
+
+/// Reads words from their bytes.
+pub(crate) fn put_words(bytes: &[u8], words: &mut [u16])
+    requires { length bytes.now ≡ 2 * length words.old }
+    ensures exact { words.new ≡ words_from bytes.now }
+    // The bytes of these words are the same.
+    ensures restores { bytes_from words.new ≡ bytes.now }
+{
+    for (k, word) in words.iter_mut().enumerate() {
+        *word = u16::from_le_bytes([bytes[2 * k], bytes[2 * k + 1]]);
+    }
+}
+
+/// Replaces each word, a rank, by the value of that rank, or by 0 where there is none, and writes it as bytes.
+pub(crate) fn put_bytes(values: &[u16], words: &[u16], bytes: &mut [u8])
+    requires { length bytes.old ≡ 2 * length words.now }
+    ensures { bytes.new ≡ bytes_from (map (slice_index values.now) words.now) }
+{
+    for (k, word) in words.iter().enumerate() {
+        let value = value_of(values, *word).to_le_bytes();
+        bytes[2 * k] = value[0];
+        bytes[2 * k + 1] = value[1];
+    }
+}
