@@ -1,0 +1,12 @@
+pub mod Vectors
+pub mod Numbers
+pub mod Cells
+pub mod Rows
+pub mod Planes
+pub mod Depths
+pub mod Written
+pub mod Taken
+pub mod Channels
+pub mod Blocks
+pub mod RoundTrip
+pub mod Worked

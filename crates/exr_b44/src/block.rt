@@ -1,0 +1,146 @@
+//! Packed data of a region, channel by channel, from raw data and back.
+
+ghost use Rattle.std.specs.Prelude.{◌≡◌, ℕ, ◌^◌, ◌<◌, ◌≤◌, ◌+◌, length, take, slice_index, IfOk, IfSome, MatchOption, MatchResult, Ok, Err, All};
+ghost use Rattle.std.specs.List.{sum_by};
+ghost use Rattle.exr_base.specs.Refusal.{Gives};
+ghost use Rattle.exr_base.specs.Shape.{IsShape, raw_size_of};
+ghost use Rattle.exr_b44.specs.Block.{IsPlain, channels_len, channels_unpacked, channels_packed, b44_of, b44_pack_of, kept_of};
+ghost use Rattle.exr_b44.specs.Sizes.{most_of};
+
+use crate::channel::{pack_channel, unpack_channel};
+use crate::fault::B44Fault;
+use crate::sizes::{counts_of, least_size, most_size, raw_len};
+use exr_base::{NoMemory, Refusal, Shape};
+use exr_planar::{put_planar, put_raw};
+use std::alloc::Global;
+
+/// The raw data of a region that packed data stands for: of B44 and of B44A, which differ in packing alone. Short comes
+/// exactly where the data ends before the last sample, Long exactly where bytes are left. Data that is too short for cells
+/// of three bytes takes no memory; else at most twice the raw bytes are held.
+///
+/// Technical Introduction, "Data Compression"; the bytes are this project's (own).
+pub fn unpack(alloc: Global, packed: &[u8], shape: &Shape) -> Result<Vec<u8>, Refusal<B44Fault>>
+    requires shape { IsShape shape.now.channels.now shape.now.region }
+    requires plain { All IsPlain shape.now.channels.now }
+    requires size { raw_size_of shape.now.channels.now shape.now.region ≤ 2 ^ 26 }
+    ensures exact { Gives (λ raw. raw.items) result (b44_of shape.now.channels.now shape.now.region packed.now) }
+    ensures size { IfOk result (λ raw. length raw.items ≡ raw_size_of shape.now.channels.now shape.now.region) }
+{
+    if least_size(shape) > packed.len() as u64 {
+        return Err(Refusal::Fault(B44Fault::Short));
+    }
+    let size = shape.raw_size() as usize;
+    let mut planar = vec![in alloc; 0u8; size]?;
+    let mut raw = vec![in alloc; 0u8; size]?;
+    match unpack_into(packed, shape, &mut planar, &mut raw) {
+        Ok(()) => Ok(raw),
+        Err(fault) => Err(Refusal::Fault(fault)),
+    }
+}
+
+/// The raw data of a region that packed data stands for. The planes of its channels are laid out first.
+fn unpack_into(
+    packed: &[u8],
+    shape: &Shape,
+    planar: &mut [u8],
+    raw: &mut [u8],
+) -> Result<(), B44Fault>
+    requires shape { IsShape shape.now.channels.now shape.now.region }
+    requires size { raw_size_of shape.now.channels.now shape.now.region ≤ 2 ^ 26 }
+    requires planar { length planar.old ≡ raw_size_of shape.now.channels.now shape.now.region }
+    requires raw { length raw.old ≡ raw_size_of shape.now.channels.now shape.now.region }
+    ensures { MatchResult result (λ _. b44_of shape.now.channels.now shape.now.region packed.now ≡ Ok raw.new) (λ fault. b44_of shape.now.channels.now shape.now.region packed.now ≡ Err fault) }
+{
+    match unpack_channels(packed, shape, planar) {
+        None => Err(B44Fault::Short),
+        Some(end) => {
+            if end < packed.len() {
+                return Err(B44Fault::Long);
+            }
+            put_raw(shape, planar, raw);
+            Ok(())
+        }
+    }
+}
+
+/// The samples of all channels one after the other. Answers where they end in the packed data; None where they are not all
+/// there.
+fn unpack_channels(packed: &[u8], shape: &Shape, planar: &mut [u8]) -> Option<usize>
+    requires shape { IsShape shape.now.channels.now shape.now.region }
+    requires size { raw_size_of shape.now.channels.now shape.now.region ≤ 2 ^ 26 }
+    requires room { length planar.old ≡ raw_size_of shape.now.channels.now shape.now.region }
+    ensures none { MatchOption result (length packed.now < channels_len shape.now.region shape.now.channels.now packed.now) (λ end. end ≤ length packed.now) }
+    ensures end { IfSome result (λ end. end ≡ channels_len shape.now.region shape.now.channels.now packed.now) }
+    ensures samples { IfSome result (λ _. planar.new ≡ channels_unpacked shape.now.region shape.now.channels.now packed.now) }
+{
+    let region = shape.region;
+    let mut at = 0;
+    let mut to = 0;
+    for channel in shape.channels {
+        let counts = counts_of(channel, region);
+        let size = raw_len(channel.kind, counts);
+        match unpack_channel(packed, at, channel.kind, counts, &mut planar[to..to + size]) {
+            None => return None,
+            Some(end) => at = end,
+        }
+        to += size;
+    }
+    Some(at)
+}
+
+/// The packed data of the raw data of a region; `flat` is true for B44A. It may be longer than the raw data.
+///
+/// Technical Introduction, "Data Compression"; the bytes are this project's (own).
+pub fn pack(alloc: Global, raw: &[u8], shape: &Shape, flat: bool) -> Result<Vec<u8>, NoMemory>
+    requires shape { IsShape shape.now.channels.now shape.now.region }
+    requires plain { All IsPlain shape.now.channels.now }
+    requires size { raw_size_of shape.now.channels.now shape.now.region ≤ 2 ^ 26 }
+    requires raw { length raw.now ≡ raw_size_of shape.now.channels.now shape.now.region }
+    ensures exact { IfOk result (λ packed. packed.items ≡ b44_pack_of shape.now.channels.now shape.now.region flat raw.now) }
+    // What was packed unpacks to what it keeps.
+    ensures keeps { IfOk result (λ packed. b44_of shape.now.channels.now shape.now.region packed.items ≡ Ok (kept_of shape.now.channels.now shape.now.region flat raw.now)) }
+{
+    let mut planar = vec![in alloc; 0u8; raw.len()]?;
+    let mut packed = vec![in alloc; 0u8; most_size(shape) as usize + 4]?;
+    let end = pack_into(raw, shape, &mut planar, &mut packed, flat);
+    packed.truncate(end);
+    Ok(packed)
+}
+
+/// The packed data of raw data, in a slice with room for it. Answers how many bytes it has.
+fn pack_into(raw: &[u8], shape: &Shape, planar: &mut [u8], into: &mut [u8], flat: bool) -> usize
+    requires shape { IsShape shape.now.channels.now shape.now.region }
+    requires size { raw_size_of shape.now.channels.now shape.now.region ≤ 2 ^ 26 }
+    requires raw { length raw.now ≡ raw_size_of shape.now.channels.now shape.now.region }
+    requires planar { length planar.old ≡ raw_size_of shape.now.channels.now shape.now.region }
+    requires room { sum_by (most_of shape.now.region) shape.now.channels.now + 4 ≤ length into.old }
+    ensures packed { take result into.new ≡ b44_pack_of shape.now.channels.now shape.now.region flat raw.now }
+    ensures keeps { b44_of shape.now.channels.now shape.now.region (take result into.new) ≡ Ok (kept_of shape.now.channels.now shape.now.region flat raw.now) }
+    ensures few { result ≤ length into.old }
+{
+    put_planar(shape, raw, planar);
+    pack_channels(planar, shape, into, flat)
+}
+
+/// Packs the samples of all channels, which stand one after the other, into a slice with room for them. Answers how many
+/// bytes the packed data has.
+fn pack_channels(planar: &[u8], shape: &Shape, into: &mut [u8], flat: bool) -> usize
+    requires shape { IsShape shape.now.channels.now shape.now.region }
+    requires size { raw_size_of shape.now.channels.now shape.now.region ≤ 2 ^ 26 }
+    requires planar { length planar.now ≡ raw_size_of shape.now.channels.now shape.now.region }
+    requires room { sum_by (most_of shape.now.region) shape.now.channels.now + 4 ≤ length into.old }
+    ensures packed { take result into.new ≡ channels_packed shape.now.region flat shape.now.channels.now planar.now }
+    ensures few { result ≤ length into.old }
+    ensures bytes { (k : ℕ) → slice_index planar.now k < 256 }
+{
+    let region = shape.region;
+    let mut at = 0;
+    let mut to = 0;
+    for channel in shape.channels {
+        let counts = counts_of(channel, region);
+        let size = raw_len(channel.kind, counts);
+        to = pack_channel(&planar[at..at + size], channel.kind, counts, into, to, flat);
+        at += size;
+    }
+    to
+}
