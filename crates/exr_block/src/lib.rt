@@ -1,13 +1,16 @@
-//! The data of one chunk: packed as it stands in a file, and raw; what can be wrong with a chunk; and which sizes its
-//! data may have.
+//! The data of one chunk: as it is stored in a file, and raw. `unpack_block` gives exactly the raw content or its first
+//! fault, `pack_block` exactly the data that a writer stores; `sizes_fit`, `fits` and `can_pack` say what each may be given.
 #![tactic(auto)]
 
 mod body;
 mod fault;
+mod packing;
+mod plain;
 mod sizes;
-#[cfg(test)]
-mod tests;
+mod unpacking;
 
 pub use body::{Block, Body};
 pub use fault::ChunkFault;
+pub use packing::{can_pack, fits, pack_block};
 pub use sizes::{is_size, sizes_fit};
+pub use unpacking::unpack_block;
