@@ -11,7 +11,7 @@ use Rattle.exr_base.specs.declared.shape.Box2i.{Box2i}
 use Rattle.exr_base.specs.declared.channel.Channel.{Channel}
 use Rattle.exr_base.specs.Channel.{bytes_of}
 use Rattle.exr_base.specs.Sampling.{is_multiple, multiples_among, span_of}
-use Rattle.exr_base.specs.Shape.{width_of, height_of, raw_size_of, channel_bytes_of, IsSide, IsSampled, IsShape}
+use Rattle.exr_base.specs.Shape.{width_of, height_of, raw_size_of, channel_bytes_of, IsSide, IsRegion, IsSampled, IsShape}
 use Rattle.exr_base.proofs.RawSize.{by_channels}
 use Rattle.exr_judge.specs.Kind.{is_tiled}
 use Rattle.exr_judge.specs.Picture.{is_everywhere, is_aligned, first_region}
@@ -22,7 +22,8 @@ use Rattle.exr_chunks.specs.Region.{across_of, column_of, row_of, start_of, end_
 use Rattle.exr_chunks.specs.Sizes.{AreSampledWell}
 use Rattle.exr_chunks.proofs.Largest.{IsNoLarger, raw_no_larger, first_long, no_larger}
 use Rattle.exr_chunks.proofs.Parts.{IsSize, side_some, width_size, height_size}
-use Rattle.exr_chunks.proofs.Pieces.{span_is, piece_within, piece_side}
+use Rattle.exr_base.proofs.Sides.{span_is, same_box}
+use Rattle.exr_chunks.proofs.Pieces.{piece_within, piece_side}
 use Rattle.exr_chunks.proofs.Repeats.{as_many}
 
 pub some_rows : (h : Header) (rows count : ℕ) → IsInLines h rows count → IsSize rows
@@ -85,9 +86,6 @@ last_reaches h rows count is =
     omega (arith, whole, left, times, pieces_are)
 
 -- ---- regions
-
-same_box : (a b c d e f g h : ℤ) → a ≡ e → b ≡ f → c ≡ g → d ≡ h → ◌≡◌ {A = Box2i} (record { x0 = a; y0 = b; x1 = c; y1 = d }) (record { x0 = e; y0 = f; x1 = g; y1 = h })
-same_box a b c d e f g h p q r s = rw (p, q, r, s) refl
 
 no_columns : (i : ℕ) → i % 1 ≡ 0
 no_columns i = omega arith
@@ -193,32 +191,36 @@ chunk_few h rows count i is within =
     omega (arith, less, small)
 
 -- the region of the last chunk, from its first line to the window's last
-last_region : (h : Header) (rows count : ℕ) (y : ℤ) (w : Box2i) → IsInLines h rows count → w ≡ h.window → y ≡ start_of w.y0 rows (count - 1) → region_of h (count - 1) ≡ record { x0 = w.x0; y0 = y; x1 = w.x1; y1 = w.y1 }
+pub last_region : (h : Header) (rows count : ℕ) (y : ℤ) (w : Box2i) → IsInLines h rows count → w ≡ h.window → y ≡ start_of w.y0 rows (count - 1) → region_of h (count - 1) ≡ record { x0 = w.x0; y0 = y; x1 = w.x1; y1 = w.y1 }
 last_region h rows count y w is window top =
     let v = h.window in
     let bottom = last_bottom v.y0 v.y1 rows (count - 1) is.picture.shape.within.rows (last_reaches h rows count is) in
     let begin : start_of v.y0 rows (count - 1) ≡ y = ap (λ (b : Box2i). start_of b.y0 rows (count - 1)) (sym window) ∙ sym top in
     region_is h rows count (count - 1) is ∙ same_box _ _ _ _ _ _ _ _ (ap (λ (b : Box2i). b.x0) (sym window)) begin (ap (λ (b : Box2i). b.x1) (sym window)) (bottom ∙ ap (λ (b : Box2i). b.y1) (sym window))
 
-pub last_bytes : (h : Header) (rows count n : ℕ) (y : ℤ) (w : Box2i) (cs : List Channel) → IsInLines h rows count → cs ≡ h.channels → w ≡ h.window → y ≡ start_of w.y0 rows (count - 1) → n ≡ raw_size_of cs (record { x0 = w.x0; y0 = y; x1 = w.x1; y1 = w.y1 }) → n ≡ chunk_bytes_of h (count - 1)
-last_bytes h rows count n y w cs is channels window top size =
-    size ∙ ap₂ (λ (xs : List Channel) (b : Box2i). raw_size_of xs b) channels (sym (last_region h rows count y w is window top)) ∙ sym (flat_bytes h (count - 1) is.flat)
-
-pub last_shape : (h : Header) (rows count : ℕ) (y : ℤ) (w : Box2i) (cs : List Channel) → IsInLines h rows count → cs ≡ h.channels → w ≡ h.window → y ≡ start_of w.y0 rows (count - 1) → IsShape cs (record { x0 = w.x0; y0 = y; x1 = w.x1; y1 = w.y1 })
-last_shape h rows count y w cs is channels window top =
+last_within : (h : Header) (rows count : ℕ) → IsInLines h rows count → IsRegion (region_of h (count - 1))
+last_within h rows count is =
     let v = h.window in
+    let y = start_of v.y0 rows (count - 1) in
     let bottom = last_bottom v.y0 v.y1 rows (count - 1) is.picture.shape.within.rows (last_reaches h rows count is) in
     let one = some_chunk h rows count is in
     let side = piece_side v.y0 v.y1 rows (count - 1) is.picture.shape.within.rows (some_rows h rows count is).some (begins h rows count (count - 1) is (omega (arith, one))) in
-    let begin : y ≡ start_of v.y0 rows (count - 1) = top ∙ ap (λ (b : Box2i). start_of b.y0 rows (count - 1)) window in
-    record {
-      few = rw channels is.picture.shape.few;
-      sampled = All-same IsSampled cs h.channels channels is.picture.shape.sampled;
-      within = record {
-        columns = subst (λ (b : Box2i). IsSide b.x0 b.x1) (sym window) is.picture.shape.within.columns;
-        rows = rw (begin, ap (λ (b : Box2i). b.y1) window ∙ sym bottom) side;
-      };
-    }
+    subst IsRegion (sym (last_region h rows count y v is refl refl)) (record {
+      columns = is.picture.shape.within.columns;
+      rows = subst (IsSide y) bottom side;
+    })
+
+-- its channels and its raw bytes
+pub last_shape : (h : Header) (rows count : ℕ) (r : Box2i) (cs : List Channel) → IsInLines h rows count → cs ≡ h.channels → r ≡ region_of h (count - 1) → IsShape cs r
+last_shape h rows count r cs is channels region = record {
+  few = rw channels is.picture.shape.few;
+  sampled = All-same IsSampled cs h.channels channels is.picture.shape.sampled;
+  within = subst IsRegion (sym region) (last_within h rows count is);
+}
+
+pub last_bytes : (h : Header) (rows count n : ℕ) (r : Box2i) (cs : List Channel) → IsInLines h rows count → cs ≡ h.channels → r ≡ region_of h (count - 1) → n ≡ raw_size_of cs r → n ≡ chunk_bytes_of h (count - 1)
+last_bytes h rows count n r cs is channels region size =
+    size ∙ ap₂ (λ (xs : List Channel) (b : Box2i). raw_size_of xs b) channels region ∙ sym (flat_bytes h (count - 1) is.flat)
 
 -- ---- one line
 

@@ -20,7 +20,8 @@ use Rattle.exr_chunks.specs.Heads.{Header, IsPicture, is_deep, pieces, chunk_wid
 use Rattle.exr_chunks.specs.Region.{across_of, down_of, column_of, row_of, start_of, end_of, region_of, chunk_bytes_of}
 use Rattle.exr_chunks.specs.Part.{header_of, IsPart}
 use Rattle.exr_chunks.specs.Sizes.{JudgesTheFirst, HasNoLarger, IsJudgedForAll}
-use Rattle.exr_chunks.proofs.Pieces.{piece_within, piece_side, span_is}
+use Rattle.exr_base.proofs.Sides.{span_is, same_box}
+use Rattle.exr_chunks.proofs.Pieces.{piece_within, piece_side}
 use Rattle.exr_chunks.proofs.Parts.{side_some, width_size, height_size, first_factor}
 use Rattle.exr_chunks.proofs.Samples.{most_samples}
 
@@ -154,9 +155,6 @@ no_larger h picture well i within =
     let area = mul-le (width_of r) (height_of r) (min (width_of h.window) (chunk_width h)) (min (height_of h.window) (chunk_height h)) p.wide p.high in
     let deep : 4 * (width_of r * height_of r) ≤ 4 * (min (width_of h.window) (chunk_width h) * min (height_of h.window) (chunk_height h)) = omega (arith, area) in
     each_no_larger (is_deep h.kind) (4 * (width_of r * height_of r)) (raw_size_of h.channels r) (4 * (min (width_of h.window) (chunk_width h) * min (height_of h.window) (chunk_height h))) (raw_size_of h.channels (first_region h)) deep flat
-
-same_box : (a b c d e f g h : ℤ) → a ≡ e → b ≡ f → c ≡ g → d ≡ h → ◌≡◌ {A = Box2i} (record { x0 = a; y0 = b; x1 = c; y1 = d }) (record { x0 = e; y0 = f; x1 = g; y1 = h })
-same_box a b c d e f g h p q r s = rw (p, q, r, s) refl
 
 first_column : (n : ℕ) → 0 % n ≡ 0
 first_column n = omega arith

@@ -2,6 +2,7 @@ pub mod Few
 pub mod Indexes
 pub mod Largest
 pub mod Listed
+pub mod Listing
 pub mod Measured
 pub mod Orders
 pub mod Parts

@@ -29,7 +29,8 @@ use Rattle.exr_chunks.specs.RawBytes.{are_whole, IsPixel, HasRawSizes}
 use Rattle.exr_chunks.specs.Region.{across_of, down_of, start_of, end_of, region_of, chunk_bytes_of, place_among, place_of}
 use Rattle.exr_chunks.specs.Sizes.{AreSampledWell, IsMeasured}
 use Rattle.exr_chunks.proofs.Measured.{bare_measured}
-use Rattle.exr_chunks.proofs.Pieces.{piece_within, piece_side, span_is}
+use Rattle.exr_base.proofs.Sides.{span_is, same_box}
+use Rattle.exr_chunks.proofs.Pieces.{piece_within, piece_side}
 
 -- a size is 1 to 2^30
 pub record IsSize (n : ℕ) : Type 0 where
@@ -134,9 +135,6 @@ pub record AreEnds (p : Part) (i : ℕ) (x0 y0 x1 y1 : ℤ) : Type 0 where
 
 by_both : (f : ℕ → ℕ → ℤ) (s t m n : ℕ) → s ≡ t → m ≡ n → f s m ≡ f t n
 by_both f s t m n a b = ap (λ k. f k m) a ∙ ap (λ k. f t k) b
-
-same_box : (a b c d e f g h : ℤ) → a ≡ e → b ≡ f → c ≡ g → d ≡ h → ◌≡◌ {A = Box2i} (record { x0 = a; y0 = b; x1 = c; y1 = d }) (record { x0 = e; y0 = f; x1 = g; y1 = h })
-same_box a b c d e f g h p q r s = rw (p, q, r, s) refl
 
 pub region_is : (p : Part) (i : ℕ) (x0 y0 x1 y1 : ℤ) → IsPart p → AreEnds p i x0 y0 x1 y1 → ◌≡◌ {A = Box2i} (record { x0 = x0; y0 = y0; x1 = x1; y1 = y1 }) (region_of (header_of p) i)
 unfolding region_of header_of
@@ -265,15 +263,27 @@ pub bare_sizes : (sizes : RawSizes) (h : Header) → HasRawSizes sizes h → Has
 unfolding chunk_count_of region_of chunk_bytes_of
 bare_sizes sizes h has = record { some = has.some; exact = has.exact }
 
-pub across_is : (h : Header) (w : Box2i) (size whole a : ℕ) → w ≡ h.window → size ≡ chunk_width h → whole ≡ width_of w → a ≡ pieces size whole → a ≡ across_of h
+across_is : (h : Header) (w : Box2i) (size whole a : ℕ) → w ≡ h.window → size ≡ chunk_width h → whole ≡ width_of w → a ≡ pieces size whole → a ≡ across_of h
 across_is h w size whole a ew es el ea = ea ∙ rw (es, el, ew) refl
 
-pub down_is : (h : Header) (w : Box2i) (size whole a : ℕ) → w ≡ h.window → size ≡ chunk_height h → whole ≡ height_of w → a ≡ pieces size whole → a ≡ down_of h
+down_is : (h : Header) (w : Box2i) (size whole a : ℕ) → w ≡ h.window → size ≡ chunk_height h → whole ≡ height_of w → a ≡ pieces size whole → a ≡ down_of h
 down_is h w size whole a ew es el ea = ea ∙ rw (es, el, ew) refl
 
 pub count_is : (h : Header) (a d : ℕ) → a ≡ across_of h → d ≡ down_of h → a * d ≡ chunk_count_of h
 unfolding chunk_count_of
 count_is h a d ea ed = ap (λ n. n * d) ea ∙ ap (λ n. across_of h * n) ed
+
+-- as many chunks side by side, as many rows of them, and as many in all as the part has
+pub record AreCounts (h : Header) (across down : ℕ) : Type 0 where
+  pub beside : across ≡ across_of h
+  pub below : down ≡ down_of h
+  pub all : across * down ≡ chunk_count_of h
+
+pub counts_are : (h : Header) (w : Box2i) (columns rows wide high a d : ℕ) → w ≡ h.window → columns ≡ chunk_width h → rows ≡ chunk_height h → wide ≡ width_of w → high ≡ height_of w → a ≡ pieces columns wide → d ≡ pieces rows high → AreCounts h a d
+counts_are h w columns rows wide high a d ew ec er el eh ea ed =
+    let beside = across_is h w columns wide a ew ec el ea in
+    let below = down_is h w rows high d ew er eh ed in
+    record { beside = beside; below = below; all = count_is h a d beside below }
 
 pub header_is : (h : Header) (p : Part) → p.kind ≡ h.kind → p.channels.items ≡ h.channels → p.method ≡ h.method → p.window ≡ h.window → p.order ≡ h.order → p.tiles ≡ h.tiles → header_of p ≡ without_attributes h
 unfolding header_of

@@ -1,11 +1,12 @@
 -- Sides cut into pieces, and rectangles of pieces counted row by row.
-use Rattle.std.proofs.Common.{◌≡◌, ℕ, ◌+◌, ◌-◌, ◌*◌, ◌%◌, ◌<◌, ◌≤◌, refl, subst, arith, ℤ, pos, negsuc, ◌+ℤ◌, ◌-ℤ◌, ◌≤ℤ◌, nat_abs}
+use Rattle.std.proofs.Common.{◌≡◌, ℕ, ◌+◌, ◌-◌, ◌*◌, ◌%◌, ◌<◌, ◌≤◌, subst, arith, ℤ, pos, ◌+ℤ◌, ◌-ℤ◌, ◌≤ℤ◌}
 use Rattle.std.proofs.Math.Nat.{div-mul-le_self}
 use Rattle.std.proofs.lemmas.Nat.{mul-le}
 use Rattle.std.proofs.lemmas.Int.{ints, clamps}
 use Rattle.std.specs.Int.{int_min}
 use Rattle.exr_base.specs.Sampling.{span_of}
 use Rattle.exr_base.specs.Shape.{IsSide}
+use Rattle.exr_base.proofs.Sides.{span_is}
 use Rattle.exr_chunks.specs.Heads.{pieces}
 use Rattle.exr_chunks.specs.Region.{start_of, end_of}
 
@@ -15,14 +16,6 @@ piece_within size length n some within =
     let whole : pieces size length * size ≤ length + size - 1 = div-mul-le_self (length + size - 1) size in
     let more : (n + 1) * size ≤ pieces size length * size = mul-le (n + 1) size (pieces size length) size (omega arith) (omega arith) in
     omega arith
-
-abs_pos : (z : ℤ) → pos 0 ≤ℤ z → pos (nat_abs z) ≡ z
-abs_pos (pos n) h = refl
-abs_pos (negsuc n) h = absurd (omega (arith, ints, h))
-
--- the places of a side
-pub span_is : (from to : ℤ) → (from -ℤ pos 1) ≤ℤ to → pos (span_of from to) ≡ (to -ℤ from) +ℤ pos 1
-span_is from to h = abs_pos ((to -ℤ from) +ℤ pos 1) (omega (arith, ints, h))
 
 -- a piece that begins on a side is a side
 side_from : (from to : ℤ) (k size : ℕ) → IsSide from to → 1 ≤ size → k < span_of from to → IsSide (from +ℤ pos k) (int_min (from +ℤ pos (k + size - 1)) to)

@@ -6,8 +6,10 @@ use Rattle.exr_base.specs.Sampling.{span_of}
 use Rattle.exr_base.specs.Shape.{width_of, height_of}
 use Rattle.exr_chunks.specs.Heads.{Header, IsPicture, pieces, chunk_width, chunk_height, chunk_count_of}
 use Rattle.exr_chunks.specs.Region.{across_of, down_of, column_of, row_of, start_of, end_of, region_of}
-use Rattle.exr_chunks.specs.Pixels.{IsInside, HasOneChunkEach}
-use Rattle.exr_chunks.proofs.Pieces.{span_is, piece_within}
+use Rattle.exr_base.specs.Boxes.{IsInside}
+use Rattle.exr_chunks.specs.Pixels.{HasOneChunkEach}
+use Rattle.exr_base.proofs.Sides.{span_is}
+use Rattle.exr_chunks.proofs.Pieces.{piece_within}
 use Rattle.exr_chunks.proofs.Indexes.{piece_of}
 use Rattle.exr_chunks.proofs.Parts.{side_some, width_size, height_size}
 

@@ -9,6 +9,7 @@ use Rattle.std.proofs.lemmas.Int.{ints, clamps}
 use Rattle.exr_base.specs.declared.shape.Box2i.{Box2i}
 use Rattle.exr_base.specs.Sampling.{span_of}
 use Rattle.exr_base.specs.Shape.{IsSide}
+use Rattle.exr_base.proofs.Logic.{true_le}
 use Rattle.exr_chunks.specs.declared.part.Part.{Part}
 use Rattle.exr_chunks.specs.declared.window.Run.{Run}
 use Rattle.exr_chunks.specs.Heads.{Header, pieces, chunk_count_of}
@@ -55,15 +56,12 @@ pub record IsCutSide (from to wfrom wto : ℤ) (low high : ℕ) : Type 0 where
   pub high_is : from +ℤ pos high ≡ int_min to wto
   pub ordered : low ≤ high
 
-le_true : (a b : ℤ) → a ≤ℤ b → int_le a b ≡ true
-le_true a b h = grind (arith, ints)
-
 le_false : (a b : ℤ) → (b +ℤ pos 1) ≤ℤ a → int_le a b ≡ false
 le_false a b h = grind (arith, ints)
 
 meets_here : (from to wfrom wto : ℤ) (low high s e : ℕ) → IsCutSide from to wfrom wto low high → s ≤ high → low ≤ e → s ≤ e → sides_meet (from +ℤ pos s) (int_min (from +ℤ pos e) to) wfrom wto ≡ true
 meets_here from to wfrom wto low high s e side sh le se =
-    le_true (int_max (from +ℤ pos s) wfrom) (int_min (int_min (from +ℤ pos e) to) wto) (omega (arith, ints, clamps, side.low_is, side.high_is, side.ordered, sh, le, se))
+    true_le (int_max (from +ℤ pos s) wfrom) (int_min (int_min (from +ℤ pos e) to) wto) (omega (arith, ints, clamps, side.low_is, side.high_is, side.ordered, sh, le, se))
 
 misses_below : (from to wfrom wto : ℤ) (low high s e : ℕ) → IsCutSide from to wfrom wto low high → e < low → sides_meet (from +ℤ pos s) (int_min (from +ℤ pos e) to) wfrom wto ≡ false
 misses_below from to wfrom wto low high s e side h =

@@ -1,4 +1,4 @@
--- A part as a geometry keeps it: what its header says of where its chunks lie, and the numbers that follow from it.
+-- What is kept of a part: what its header says of where its chunks lie, and the numbers that follow from it.
 use Rattle.std.specs.Prelude.{◌≡◌, ◌+◌, ◌≤◌, ◌<◌, ◌^◌, ℕ, List, [], length, get_or, map, All, sum_by}
 use Rattle.exr_chunks.specs.declared.part.Part.{Part}
 use Rattle.exr_chunks.specs.Heads.{Header, chunk_width, chunk_height, chunk_count_of, IsPicture}
@@ -37,7 +37,7 @@ pub record IsPart (p : Part) : Type 0 where
 abbrev pub headers_of : List Part → List Header
 headers_of parts = map header_of parts
 
--- the parts of a head, each behind those before it
+-- the parts of a file, each after those before it
 pub record AreParts (parts : List Part) (all : ℕ) : Type 0 where
   pub each : All IsPart parts
   pub firsts : (k : ℕ) (d : Part) → k < length parts → (get_or parts k d).first ≡ chunks_before (headers_of parts) k

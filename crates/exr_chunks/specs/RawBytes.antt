@@ -13,8 +13,8 @@ use Rattle.exr_chunks.specs.Heads.{Header, IsPicture, is_tiled, is_deep, is_ever
 use Rattle.exr_chunks.specs.Region.{region_of, chunk_bytes_of}
 use Rattle.exr_chunks.specs.Sizes.{IsMeasured}
 
--- what is read of chunk i: so many bytes for each pixel of its region, or the number at its place in the cycle, but for
--- the last chunk, which has a number of its own
+-- the size that is kept of chunk i: some bytes for each pixel of its region, or the number at its place in the cycle; the
+-- last chunk has a number of its own
 abbrev pub kept_size : RawSizes → ℕ → Box2i → ℕ → ℕ
 kept_size (Pixels bytes) count region i = bytes * (width_of region * height_of region)
 kept_size (Lines cycle last) count region i =
@@ -34,14 +34,14 @@ pub record HasRawSizes (sizes : RawSizes) (h : Header) : Type 0 where
 abbrev pub are_whole : List Channel → Bool
 are_whole channels = list_all is_everywhere channels
 
--- and so many bytes are those of a pixel
+-- and the bytes of a pixel are those of one sample of each
 pub record IsPixel (channels : List Channel) (bytes : ℕ) : Type 0 where
   pub whole : are_whole channels ≡ true
   pub sum : bytes ≡ sum_by (λ c. bytes_of c.kind) channels
 
 -- ---- channels by their y samplings
 
--- a flat part in lines, with so many lines in a chunk that is not cut, and so many chunks
+-- a flat scan line part, the lines of a chunk that is not cut, and the number of its chunks
 pub record IsInLines (h : Header) (rows count : ℕ) : Type 0 where
   pub picture : IsPicture h
   pub measured : IsMeasured h
@@ -76,7 +76,7 @@ group_bytes rows i g = samples_in rows i g.ys * g.bytes
 abbrev pub groups_bytes : List Group → ℕ → ℕ → ℕ
 groups_bytes groups rows i = weighed (samples_in rows i) groups
 
--- after so many chunks the samples of each group come again
+-- after that many chunks the pattern of each group repeats
 abbrev pub IsPeriod : List Group → ℕ → ℕ → Type 0
 IsPeriod groups rows period = All (λ g. (period * rows) % g.ys ≡ 0) groups
 

@@ -11,7 +11,7 @@ use Rattle.exr_chunks.specs.declared.place.Place.{Place}
 use Rattle.exr_chunks.specs.declared.place.Place.TheVariants.{Line, Tile}
 use Rattle.exr_chunks.specs.Heads.{Header, Scan, Increasing, Tiles, is_deep, pieces, chunk_width, chunk_height, chunk_count_of}
 
--- the header of a part. There is none behind the last one: what stands there is of no part.
+-- the header of a part. There is none after the last one: what stands there is of no part.
 abbrev pub no_header : Header
 no_header = record {
   attributes = [];
@@ -26,7 +26,7 @@ no_header = record {
 abbrev pub header_at : List Header → ℕ → Header
 header_at parts part = slice_index_or parts part no_header
 
--- how many chunks stand side by side, and how many such rows there are
+-- the number of chunks in a row, and the number of such rows
 abbrev pub across_of : Header → ℕ
 across_of h = pieces (chunk_width h) (width_of h.window)
 

@@ -1,4 +1,4 @@
--- What judging says of the raw sizes of a header's chunks.
+-- What the validation of a header says of the raw sizes of its chunks.
 use Rattle.std.specs.Prelude.{◌≡◌, ◌≤◌, ◌<◌, ◌^◌, ◌↔◌, ℕ, IsTrue, All, None, false}
 use Rattle.exr_chunks.specs.Heads.{Header, IsPicture, is_tiled, is_sampled_well, raw_chunk_of, chunk_count_of}
 use Rattle.exr_chunks.specs.Region.{chunk_bytes_of}
@@ -13,7 +13,7 @@ pub record IsMeasured (h : Header) : Type 0 where
   pub lines : is_tiled h.kind ≡ false → h.tiles ≡ None
   pub small : raw_chunk_of h ≤ 2 ^ 26
 
--- what is judged of a header is the raw size of its first chunk
+-- the size that is validated is the raw size of the first chunk
 abbrev pub JudgesTheFirst : Header → Type 0
 JudgesTheFirst h = IsPicture h → chunk_bytes_of h 0 ≡ raw_chunk_of h
 

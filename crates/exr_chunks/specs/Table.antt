@@ -1,4 +1,4 @@
--- The tables of offsets: one a part, in the order of the parts, behind the head. File Layout, "Component Four: Offset
+-- The offset tables: one per part, in the order of the parts, after the headers. File Layout, "Component Four: Offset
 -- Tables".
 use Rattle.std.specs.Prelude.{◌+◌, ◌*◌, ℕ, List, take, drop, sum_by}
 use Rattle.std.specs.Int.{w64, from_le_bytes}
@@ -8,7 +8,7 @@ use Rattle.exr_chunks.specs.Heads.{Header, chunk_count_of}
 abbrev pub chunks_before : List Header → ℕ → ℕ
 chunks_before parts part = sum_by chunk_count_of (take part parts)
 
--- where the entry of a chunk stands in a file, behind a head of some bytes
+-- the offset of a chunk's entry in a file, after headers of some bytes
 abbrev pub entry_place : List Header → ℕ → ℕ → ℕ → ℕ
 entry_place parts head_bytes part i = head_bytes + 8 * (chunks_before parts part + i)
 

@@ -1,17 +1,17 @@
--- The order in which a writer puts the chunks of a file: part by part (own), in a part by its line order. File Layout,
+-- The write order of the chunks of a file: part by part (own), in a part by its line order. File Layout,
 -- "Predefined Attribute Types" (lineOrder); Technical Introduction, "Scan Line Order".
 use Rattle.std.specs.Prelude.{ℕ, ◌+◌, ◌-◌, ◌*◌, ◌/◌, ◌%◌, Bool, true, false, List, [], ◌∷◌, ◌++◌, map, reverse, if◌then◌else◌}
 use Rattle.std.specs.List.{flat_map, range_with_len}
 use Rattle.exr_chunks.specs.Heads.{Header, LineOrder, Increasing, Decreasing, Random}
 use Rattle.exr_chunks.specs.Region.{across_of, down_of}
 
--- whether the lines of a part fall. Chunks in random order go by index.
+-- whether the lines of a part are written in decreasing order. Chunks in random order are written by index.
 abbrev pub is_falling : LineOrder → Bool
 is_falling Increasing = false
 is_falling Decreasing = true
 is_falling Random = false
 
--- the numbers below n, rising
+-- the numbers below n, increasing
 abbrev pub numbers_below : ℕ → List ℕ
 numbers_below n = range_with_len 0 n
 
@@ -35,8 +35,8 @@ turns_from part (h ∷ hs) = map (λ i. (part, i)) (part_order h) ++ turns_from 
 abbrev pub turns_of : List Header → List (ℕ × ℕ)
 turns_of parts = turns_from 0 parts
 
--- where a chunk stands among those of its part, and which chunk stands at a place, by a closed formula: rows change
--- places from the ends, where they fall
+-- the position of a chunk in the write order of its part, and the chunk at a position, by a closed formula: where lines
+-- decrease, rows change places from the ends
 abbrev pub mirrored : Bool → ℕ → ℕ → ℕ → ℕ
 mirrored true across down k = (down - 1 - k / across) * across + k % across
 mirrored false across down k = k

@@ -16,7 +16,7 @@ sides_meet from to from' to' = int_le (int_max from from') (int_min to to')
 abbrev pub boxes_meet : Box2i → Box2i → Bool
 boxes_meet a b = sides_meet a.x0 a.x1 b.x0 b.x1 && sides_meet a.y0 a.y1 b.y0 b.y1
 
--- those of the first n indexes whose regions meet a window, rising
+-- those of the first n indexes whose regions meet a window, increasing
 unfoldable pub meeting_among : Header → Box2i → ℕ → List ℕ
 meeting_among h window zero = []
 meeting_among h window (suc n) =
@@ -39,9 +39,12 @@ pub record IsRun (from to : ℤ) (size : ℕ) (window_from window_to : ℤ) (r :
   pub before : (k : ℕ) → k < r.first → piece_meets from to size window_from window_to k ≡ false
   pub behind_it : (k : ℕ) → r.behind ≤ k → piece_meets from to size window_from window_to k ≡ false
 
--- the columns of a part's chunks that a window meets, and a row that it meets
+-- the columns and the rows of a part's chunks that a window meets, and a row that it meets
 abbrev pub AreColumns : Part → Box2i → Run → Type 0
 AreColumns p window r = IsRun p.window.x0 p.window.x1 p.columns window.x0 window.x1 r
+
+abbrev pub AreRows : Part → Box2i → Run → Type 0
+AreRows p window r = IsRun p.window.y0 p.window.y1 p.rows window.y0 window.y1 r
 
 pub record IsRow (p : Part) (window : Box2i) (row : ℕ) : Type 0 where
   pub within : row < p.down

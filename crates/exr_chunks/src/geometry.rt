@@ -1,10 +1,10 @@
-//! The geometry of a file: where the chunks of all its parts lie.
+//! The chunks of a file: the region, the raw size, the place and the offset table entry of each.
 
 ghost use Rattle.std.specs.Prelude.{◌≡◌, ◌≢◌, ◌<◌, ◌≤◌, ◌^◌, ℕ, All, IfOk, IfSome, length, map, sum_by};
 ghost use Rattle.exr_base.specs.Shape.{IsRegion};
 ghost use Rattle.exr_chunks.specs.Heads.{IsPicture, chunk_count_of};
 ghost use Rattle.exr_chunks.specs.Part.{without_attributes, header_of, IsPart};
-ghost use Rattle.exr_chunks.specs.Pixels.{IsInside};
+ghost use Rattle.exr_base.specs.Boxes.{IsInside};
 ghost use Rattle.exr_chunks.specs.Region.{header_at, region_of, chunk_bytes_of, place_of, IsIndexOf};
 ghost use Rattle.exr_chunks.specs.Sizes.{IsMeasured};
 ghost use Rattle.exr_chunks.specs.Table.{chunks_before, entry_place};
@@ -19,9 +19,9 @@ use std::marker::Model;
 
 /// Where the chunks of all parts of a file lie, seen as the headers of its parts without their attributes.
 ///
-/// Parts, indexes and turns count from 0. An index is a chunk's place in its part's table of offsets. But for `new` and
-/// `chunks_of` the calls take no memory, and each takes the same time whatever the head, but for `at_turn`, which
-/// searches the parts by halves, and `chunks_of`, which goes over its answer.
+/// Parts, indexes and turns count from 0. An index is a chunk's place in its part's offset table, a turn its position in
+/// the write order of the whole file. Only `new` and `chunks_of` take memory. Each call takes the same time whatever the
+/// head, except `at_turn`, which searches the parts by halves, and `chunks_of`, which goes over its answer.
 #[derive(Drop, Debug)]
 pub struct Geometry {
     parts: Vec<Part>,
@@ -61,19 +61,22 @@ fn geometry_of(alloc: Global, headers: &[Header]) -> Result<Geometry, NoMemory>
 impl Geometry {
     /// The geometry of a file with this head.
     pub fn new(alloc: Global, head: &FileHead) -> Result<Geometry, NoMemory>
-        ensures { IfOk result (λ geometry. geometry ≡ map without_attributes head.now.parts) }
+        ensures exact { IfOk result (λ geometry. geometry ≡ map without_attributes head.now.parts) }
+        // What holds of the headers of each head.
+        ensures pictures { All IsPicture head.now.parts }
+        ensures measured { All IsMeasured head.now.parts }
     {
         geometry_of(alloc, head.parts())
     }
 
-    /// How many parts there are.
+    /// Number of parts.
     pub fn parts(&self) -> u32
         ensures { result ≡ length self.now }
     {
         self.parts.len() as u32
     }
 
-    /// How many chunks all parts have, at most 2^20.
+    /// Number of chunks of all parts, at most 2^20.
     pub fn total(&self) -> u32
         ensures exact { result ≡ sum_by chunk_count_of self.now }
         ensures few { result ≤ 2 ^ 20 }
@@ -92,7 +95,7 @@ impl Geometry {
         &self.parts[part as usize]
     }
 
-    /// How many chunks a part has.
+    /// Number of chunks of a part.
     pub fn chunk_count(&self, part: u32) -> u32
         requires { part < length self.now }
         ensures { result ≡ chunk_count_of (header_at self.now part) }
@@ -100,7 +103,7 @@ impl Geometry {
         self.part(part).count
     }
 
-    /// Where in the file the eight bytes of a chunk's entry in its table of offsets stand, behind a head of so many bytes.
+    /// File offset of a chunk's offset table entry, which has eight bytes, in a file whose headers end at `head_bytes`.
     ///
     /// File Layout, "Component Four: Offset Tables".
     pub fn entry_at(&self, head_bytes: u64, part: u32, index: u32) -> u64
@@ -125,8 +128,8 @@ impl Geometry {
         self.part(part).region(index)
     }
 
-    /// The raw bytes of a chunk; of a deep one those of its count table, which has four bytes a pixel. No chunk of a head
-    /// that was accepted has more than 2^26.
+    /// Number of raw bytes of a chunk, at most 2^26; of a deep chunk the size of its sample count table, four bytes a
+    /// pixel.
     pub fn raw_size(&self, part: u32, index: u32) -> u64
         requires part { part < length self.now }
         requires index { index < chunk_count_of (header_at self.now part) }
@@ -145,7 +148,7 @@ impl Geometry {
         self.part(part).place(index)
     }
 
-    /// The chunk with a place; None exactly where no chunk of the part has it.
+    /// The index of the chunk at a place; `None` if no chunk of the part has that place.
     pub fn index_of(&self, part: u32, place: Place) -> Option<u32>
         requires { part < length self.now }
         ensures found { IfSome result (λ i. IsIndexOf (header_at self.now part) place i) }
@@ -154,13 +157,14 @@ impl Geometry {
         self.part(part).index_of(place)
     }
 
-    /// The chunks whose regions a window meets, rising; an empty window meets none.
+    /// The indexes of the chunks whose regions a window meets, in increasing order; an empty window meets none.
     ///
-    /// They are found from the corners of the window, with one step for each of them and one for each row that they
-    /// stand in; no other chunk is looked at.
+    /// They are computed from the corners of the window, in one step for each of them and one for each row of chunks; no
+    /// other chunk is visited.
     pub fn chunks_of(&self, alloc: Global, part: u32, window: Box2i) -> Result<Vec<u32>, NoMemory>
         requires { part < length self.now }
-        ensures { IfOk result (λ chunks. chunks.items ≡ chunks_of_window (header_at self.now part) window) }
+        ensures exact { IfOk result (λ chunks. chunks.items ≡ chunks_of_window (header_at self.now part) window) }
+        ensures few { IfOk result (λ chunks. length chunks.items ≤ 2 ^ 20) }
     {
         self.part(part).chunks_of(alloc, window)
     }

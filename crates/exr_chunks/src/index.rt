@@ -1,4 +1,4 @@
-//! From the place of a chunk to its index.
+//! The index of a chunk by its place.
 
 ghost use Rattle.std.specs.Prelude.{◌≡◌, ◌≢◌, ◌<◌, ℕ, IfSome};
 ghost use Rattle.exr_chunks.specs.declared.place.Place.TheVariants.{Line, Tile};
@@ -10,7 +10,7 @@ use crate::place::Place;
 use crate::sides::offset;
 
 impl Part {
-    /// The block that begins with a line.
+    /// The index of the block whose first line is `y`.
     fn index_of_line(&self, y: i32) -> Option<u32>
         requires { IsPart self.now }
         ensures found { IfSome result (λ i. IsIndexOf (header_of self.now) (Line y) i) }
@@ -31,7 +31,7 @@ impl Part {
         }
     }
 
-    /// The tile of some numbers.
+    /// The index of the tile of these numbers.
     fn index_of_tile(&self, tx: u32, ty: u32, lx: u32, ly: u32) -> Option<u32>
         requires { IsPart self.now }
         ensures found { IfSome result (λ i. IsIndexOf (header_of self.now) (Tile tx ty lx ly) i) }
@@ -57,7 +57,7 @@ impl Part {
         }
     }
 
-    /// The chunk with a place.
+    /// The index of the chunk at a place.
     pub fn index_of(&self, place: Place) -> Option<u32>
         requires { IsPart self.now }
         ensures found { IfSome result (λ i. IsIndexOf (header_of self.now) place i) }

@@ -4,12 +4,12 @@ ghost use Rattle.exr_chunks.specs.Heads.{Header};
 ghost use Rattle.exr_chunks.specs.Pixels.{HasOneChunkEach};
 ghost use Rattle.exr_chunks.specs.Sizes.{JudgesTheFirst, HasNoLarger, IsJudgedForAll};
 
-/// No chunk of a part has more raw bytes than the first, whose size is the one that is judged: it is cut no shorter than
-/// another, and it begins at a sample of each channel.
+/// No chunk of a part has more raw bytes than the first, whose size is the one that is validated: no chunk is cut less,
+/// and the first begins at a sample of each channel.
 pub fn no_chunk_is_larger()
     ensures first { (h : Header) → JudgesTheFirst h }
     ensures others { (h : Header) → HasNoLarger h }
-    // The size that is judged passes the limit exactly where one of all sizes does.
+    // The validated size passes the limit exactly where some chunk's size does.
     ensures judged { (h : Header) → IsJudgedForAll h }
 {}
 

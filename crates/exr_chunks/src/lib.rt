@@ -1,7 +1,8 @@
-//! Where the chunks of a file lie: the region and the raw size of each, its place among the others, its entry in the
-//! tables of offsets, and the order in which a writer puts all of them.
+//! The chunks of a file, computed from its headers: the region and the raw size of each, its place among the others and
+//! the fields that name it, its offset table entry, and the order in which a writer writes them.
 #![tactic(auto)]
 
+mod fields;
 mod geometry;
 mod groups;
 mod index;
@@ -11,11 +12,10 @@ mod place;
 mod raw;
 mod region;
 mod sides;
-#[cfg(test)]
-mod tests;
 mod turns;
 mod window;
 
+pub use fields::chunk_fields;
 pub use geometry::Geometry;
 pub use laws::{each_pixel_has_one_chunk, no_chunk_is_larger};
 pub use place::Place;

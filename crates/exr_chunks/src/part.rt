@@ -1,4 +1,4 @@
-//! A part as a geometry keeps it.
+//! What is kept of each part of a file.
 
 ghost use Rattle.std.specs.Prelude.{◌≡◌, ◌≤◌, ◌+◌, ◌^◌, IfOk};
 ghost use Rattle.exr_base.specs.Shape.{IsSide, IsSampled};
@@ -7,8 +7,8 @@ ghost use Rattle.exr_chunks.specs.Part.{without_attributes, header_of, IsPart};
 ghost use Rattle.exr_chunks.specs.Sizes.{IsMeasured};
 
 use crate::raw::RawSizes;
-use crate::sides::{pieces, span};
-use exr_base::{Box2i, Channel, Method, NoMemory};
+use crate::sides::{height, width};
+use exr_base::{Box2i, Channel, Method, NoMemory, copy_channels, pieces};
 use exr_header::{Header, LineOrder, PartKind, Tiles};
 use std::alloc::Global;
 
@@ -25,29 +25,12 @@ pub(crate) struct Part {
     pub columns: u32,
     pub rows: u32,
     pub sizes: RawSizes,
-    /// How many chunks stand side by side, how many such rows there are, and how many chunks that makes.
+    /// Number of chunks in a row, number of such rows, and number of chunks.
     pub across: u32,
     pub down: u32,
     pub count: u32,
-    /// How many chunks the parts before have.
+    /// Number of chunks of the parts before it.
     pub first: u32,
-}
-
-/// The same channels again.
-fn copied(alloc: Global, channels: &[Channel]) -> Result<Vec<Channel>, NoMemory>
-    ensures { IfOk result (λ copies. copies.items ≡ channels.now) }
-{
-    let mut copies = Vec::with_capacity(alloc, channels.len())?;
-    for channel in channels {
-        copies.push(Channel {
-            name: channel.name.clone()?,
-            kind: channel.kind,
-            linear: channel.linear,
-            xs: channel.xs,
-            ys: channel.ys,
-        })?;
-    }
-    Ok(copies)
 }
 
 /// The columns of a chunk that is not cut.
@@ -59,7 +42,7 @@ fn columns(header: &Header) -> u32
 {
     match header.tiles() {
         Some(tiles) => tiles.xsize,
-        None => span(header.window().x0, header.window().x1),
+        None => width(header.window()),
     }
 }
 
@@ -77,7 +60,7 @@ fn rows(header: &Header) -> u32
 }
 
 impl Part {
-    /// The part of a header, behind parts that have so many chunks.
+    /// The part of a header, after parts that have `first` chunks.
     pub fn new(alloc: Global, header: &Header, first: u32) -> Result<Part, NoMemory>
         requires picture { IsPicture header.now }
         requires measured { IsMeasured header.now }
@@ -89,12 +72,12 @@ impl Part {
         let window = header.window();
         let columns = columns(header);
         let rows = rows(header);
-        let across = pieces(columns, span(window.x0, window.x1));
-        let down = pieces(rows, span(window.y0, window.y1));
+        let across = pieces(columns, width(window));
+        let down = pieces(rows, height(window));
         let count = across * down;
         Ok(Part {
             kind: header.kind(),
-            channels: copied(alloc, header.channels())?,
+            channels: copy_channels(alloc, header.channels())?,
             method: header.method(),
             window,
             order: header.order(),

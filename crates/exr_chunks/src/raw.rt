@@ -1,13 +1,14 @@
 //! The raw sizes of a part's chunks, in a form in which each is looked up in the same time, however many channels and
 //! samplings the part has.
 //!
-//! In a part in lines where channels lack samples, the bytes of a chunk depend on which samplings divide the numbers of
-//! its lines. The data window begins at a multiple of each, so the sizes come again after as many chunks as have a whole
-//! number of lines of each sampling (own).
+//! In a scan line part with subsampled channels, the size of a chunk depends on which samplings divide the numbers of its
+//! lines. The data window starts at a multiple of each sampling, so the pattern of sizes repeats after as many chunks as
+//! have a whole number of lines of each sampling (own).
 
-ghost use Rattle.std.specs.Prelude.{◌≡◌, ◌≤◌, ◌<◌, ◌+◌, ◌*◌, ◌%◌, ◌^◌, false, ℕ, All, IfOk, MatchOption, length, slice_index};
+ghost use Rattle.std.specs.Prelude.{◌≡◌, ◌≤◌, ◌<◌, ◌+◌, ◌-◌, ◌*◌, ◌%◌, ◌^◌, false, ℕ, All, IfOk, MatchOption, length, slice_index};
 ghost use Rattle.exr_chunks.specs.Heads.{IsPicture, chunk_height, chunk_count_of};
 ghost use Rattle.exr_chunks.specs.RawBytes.{are_whole, IsPixel, HasRawSizes, IsInLines, group_bytes, groups_bytes, IsPeriod, IsCycle};
+ghost use Rattle.exr_chunks.specs.Region.{region_of};
 ghost use Rattle.exr_chunks.specs.Sizes.{IsMeasured};
 
 use crate::groups::{Group, groups_of};
@@ -19,13 +20,13 @@ use std::alloc::Global;
 /// What the raw size of a chunk is read from.
 #[derive(Drop, Debug)]
 pub(crate) enum RawSizes {
-    /// Each pixel has as many bytes: of samples, or of its number in the count table of a deep chunk.
+    /// Bytes per pixel: of its samples, or of its entry in the sample count table of a deep chunk.
     Pixels { bytes: u64 },
-    /// The sizes of the first chunks, which come again and again, and that of the last chunk, which may have fewer lines.
+    /// The sizes of the first chunks, a pattern that repeats, and that of the last chunk, which may have fewer lines.
     Lines { cycle: Vec<u32>, last: u32 },
 }
 
-/// The bytes of a pixel; None exactly where some channel lacks a sample at some.
+/// Bytes per pixel; `None` if some channel is subsampled.
 fn pixel(channels: &[Channel]) -> Option<u64>
     requires { length channels.now ≤ 1024 }
     ensures { MatchOption result (are_whole channels.now ≡ false) (IsPixel channels.now) }
@@ -40,7 +41,7 @@ fn pixel(channels: &[Channel]) -> Option<u64>
     Some(bytes)
 }
 
-/// The least multiple of `step` chunks after which the samples of a sampling come again, or else `most`.
+/// The least multiple of `step` chunks after which the pattern of a sampling repeats, or else `most`.
 fn multiple(step: u32, ys: u32, rows: u32, most: u32) -> u32
     requires some { 1 ≤ step }
     requires within { step ≤ most }
@@ -62,7 +63,7 @@ fn multiple(step: u32, ys: u32, rows: u32, most: u32) -> u32
     most
 }
 
-/// After how many chunks of so many lines the samples of all groups come again, or else `most`.
+/// Number of chunks of `rows` lines after which the pattern of all groups repeats, or else `most`.
 fn period(groups: &[Group], rows: u32, most: u32) -> u32
     requires some { 1 ≤ most }
     requires sampled { All (λ g. 1 ≤ g.ys) groups.now }
@@ -79,7 +80,7 @@ fn period(groups: &[Group], rows: u32, most: u32) -> u32
     period
 }
 
-/// Adds the bytes of a group that has samples in each chunk: there is one within as many lines as a chunk has.
+/// Adds the bytes of a group that has samples in each chunk: its sampling is at most the number of lines of a chunk.
 fn add_to_each(sizes: &mut [u32], rows: u32, group: Group)
     requires sampled { 1 ≤ group.ys }
     requires dense { group.ys ≤ rows }
@@ -120,7 +121,7 @@ fn add_to_lines(sizes: &mut [u32], rows: u32, group: Group)
     }
 }
 
-/// Adds the bytes of a group to the sizes of the first chunks, in no more steps than there are chunks.
+/// Adds the bytes of a group to the sizes of the first chunks, in at most as many steps as there are chunks.
 fn add(sizes: &mut [u32], rows: u32, group: Group)
     requires some { 1 ≤ rows }
     requires sampled { 1 ≤ group.ys }
@@ -136,7 +137,7 @@ fn add(sizes: &mut [u32], rows: u32, group: Group)
     }
 }
 
-/// The sizes of the first of so many whole chunks, up to where they come again.
+/// The sizes of the first of `whole` uncut chunks, up to where the pattern repeats.
 fn cycle_of(alloc: Global, groups: &[Group], rows: u32, whole: u32) -> Result<Vec<u32>, NoMemory>
     requires some { 1 ≤ rows }
     requires sampled { All (λ g. 1 ≤ g.ys) groups.now }
@@ -155,24 +156,33 @@ fn cycle_of(alloc: Global, groups: &[Group], rows: u32, whole: u32) -> Result<Ve
     Ok(cycle)
 }
 
+/// The region of the last chunk of a part in lines: the lines that the whole chunks leave.
+fn last_region(header: &Header, rows: u32, count: u32) -> Box2i
+    requires { IsInLines header.now rows count }
+    ensures { result ≡ region_of header.now (count - 1) }
+{
+    let window = header.window();
+    let whole = count - 1;
+    Box2i {
+        x0: window.x0,
+        y0: start(window.y0, window.y1, rows, whole),
+        x1: window.x1,
+        y1: window.y1,
+    }
+}
+
 /// The sizes of the chunks of a part in lines, flat and without tiles.
 fn lines_of(alloc: Global, header: &Header, rows: u32, count: u32) -> Result<RawSizes, NoMemory>
     requires { IsInLines header.now rows count }
     ensures { IfOk result (λ sizes. HasRawSizes sizes header.now) }
 {
     let channels = header.channels();
-    let window = header.window();
-    let groups = groups_of(alloc, channels, window)?;
+    let groups = groups_of(alloc, channels, header.window())?;
     let whole = count - 1;
     let cycle = cycle_of(alloc, groups.as_slice(), rows, whole)?;
     let last = Shape {
         channels,
-        region: Box2i {
-            x0: window.x0,
-            y0: start(window.y0, window.y1, rows, whole),
-            x1: window.x1,
-            y1: window.y1,
-        },
+        region: last_region(header, rows, count),
     };
     Ok(RawSizes::Lines {
         cycle,
@@ -181,7 +191,7 @@ fn lines_of(alloc: Global, header: &Header, rows: u32, count: u32) -> Result<Raw
 }
 
 impl RawSizes {
-    /// The raw sizes of a part's chunks, of which one that is not cut has so many lines.
+    /// The raw sizes of the `count` chunks of a part; an uncut chunk has `rows` lines.
     pub fn new(alloc: Global, header: &Header, rows: u32, count: u32) -> Result<RawSizes, NoMemory>
         requires picture { IsPicture header.now }
         requires measured { IsMeasured header.now }

@@ -3,13 +3,13 @@
 ghost use Rattle.std.specs.Prelude.{◌≡◌, ◌<◌, ◌≤◌, ◌^◌};
 ghost use Rattle.exr_base.specs.Shape.{IsRegion};
 ghost use Rattle.exr_chunks.specs.Part.{header_of, IsPart};
-ghost use Rattle.exr_chunks.specs.Pixels.{IsInside};
+ghost use Rattle.exr_base.specs.Boxes.{IsInside};
 ghost use Rattle.exr_chunks.specs.Region.{region_of, chunk_bytes_of, place_of};
 
 use crate::part::Part;
 use crate::place::Place;
 use crate::raw::RawSizes;
-use crate::sides::{end, span, start};
+use crate::sides::{end, height, start, width};
 use exr_base::Box2i;
 
 impl Part {
@@ -42,8 +42,8 @@ impl Part {
         match &self.sizes {
             RawSizes::Pixels { bytes } => {
                 let region = self.region(index);
-                let columns = u64::from(span(region.x0, region.x1));
-                let rows = u64::from(span(region.y0, region.y1));
+                let columns = u64::from(width(region));
+                let rows = u64::from(height(region));
                 *bytes * (columns * rows)
             }
             RawSizes::Lines { cycle, last } => {

@@ -2,30 +2,39 @@
 
 ghost use Rattle.std.specs.Prelude.{◌≡◌, ◌≤◌, ◌<◌, ◌*◌, ◌^◌, ◌≢◌, ◌+ℤ◌, ℕ, pos, IfSome};
 ghost use Rattle.exr_base.specs.Sampling.{span_of};
-ghost use Rattle.exr_base.specs.Shape.{IsSide};
-ghost use Rattle.exr_chunks.specs.Heads.{pieces};
+ghost use Rattle.exr_base.specs.Shape.{IsRegion, IsSide, height_of, width_of};
 ghost use Rattle.exr_chunks.specs.Region.{start_of, end_of};
 
-/// The places of a side.
+use exr_base::Box2i;
+
+/// The number of places of a side.
 pub(crate) fn span(from: i32, to: i32) -> u32
     requires { IsSide from to }
     ensures exact { result ≡ span_of from to }
     ensures small { result ≤ 2 ^ 20 }
 {
-    (i64::from(to) - i64::from(from) + 1) as u32
+    exr_base::span(from, to)
 }
 
-/// How many pieces of a size cover a length.
-pub(crate) fn pieces(size: u32, length: u32) -> u32
-    requires some { 1 ≤ size }
-    requires small { size ≤ 2 ^ 30 }
-    requires short { length ≤ 2 ^ 20 }
-    ensures { result ≡ pieces size length }
+/// The columns of a region.
+pub(crate) fn width(region: Box2i) -> u32
+    requires { IsRegion region }
+    ensures exact { result ≡ width_of region }
+    ensures small { result ≤ 2 ^ 20 }
 {
-    (length + size - 1) / size
+    span(region.x0, region.x1)
 }
 
-/// Where a piece begins.
+/// The lines of a region.
+pub(crate) fn height(region: Box2i) -> u32
+    requires { IsRegion region }
+    ensures exact { result ≡ height_of region }
+    ensures small { result ≤ 2 ^ 20 }
+{
+    span(region.y0, region.y1)
+}
+
+/// First place of a piece.
 pub(crate) fn start(from: i32, to: i32, size: u32, piece: u32) -> i32
     requires side { IsSide from to }
     requires within { piece * size < span_of from to }
@@ -34,7 +43,7 @@ pub(crate) fn start(from: i32, to: i32, size: u32, piece: u32) -> i32
     from + (piece * size) as i32
 }
 
-/// Where a piece ends.
+/// Last place of a piece, cut at the end of the side.
 pub(crate) fn end(from: i32, to: i32, size: u32, piece: u32) -> i32
     requires side { IsSide from to }
     requires some { 1 ≤ size }
@@ -50,7 +59,7 @@ pub(crate) fn end(from: i32, to: i32, size: u32, piece: u32) -> i32
     }
 }
 
-/// How far a place lies behind the first one of a side; None exactly off the side.
+/// Distance of a place from the first one of a side; `None` if it is not on the side.
 pub(crate) fn offset(from: i32, to: i32, place: i32) -> Option<u32>
     requires { IsSide from to }
     ensures within { IfSome result (λ n. n < span_of from to) }

@@ -1,4 +1,4 @@
-//! The order in which a writer puts the chunks of a file, and back from a place in it to the chunk.
+//! The write order of a file: the position of each chunk in it (its turn), and the chunk at each position.
 
 ghost use Rattle.std.specs.Prelude.{◌≡◌, ◌<◌, ◌≤◌, ◌+◌, ℕ, length, slice_get, sum_by};
 ghost use Rattle.exr_chunks.specs.Heads.{chunk_count_of};
@@ -11,7 +11,7 @@ use crate::geometry::Geometry;
 use crate::part::Part;
 use exr_header::LineOrder;
 
-/// Whether the lines of a part fall.
+/// Whether the lines of a part are written in decreasing order.
 fn is_falling(order: LineOrder) -> bool
     ensures { result ≡ is_falling order }
 {
@@ -22,7 +22,7 @@ fn is_falling(order: LineOrder) -> bool
 }
 
 impl Part {
-    /// Where a chunk stands among those of its part; and the chunk that stands at a place.
+    /// The position of a chunk in the write order of its part; and the chunk at that position.
     fn mirrored(&self, index: u32) -> u32
         requires part { IsPart self.now }
         requires within { index < self.now.count }
@@ -38,15 +38,16 @@ impl Part {
 }
 
 impl Geometry {
-    /// The turn of a chunk: where a writer puts it among the chunks of all parts.
+    /// The turn of a chunk: its position in the write order, from 0.
     ///
-    /// Parts go in their order (own). In a part chunks go by index, but where the lines fall: then rows of chunks fall,
-    /// and each row runs from left to right.
+    /// Parts are written one after another, in their order (own). In a part the chunks are written by index; with
+    /// decreasing lines the last row of chunks comes first, and each row is written from left to right. File Layout,
+    /// "Predefined Attribute Types" (lineOrder).
     pub fn turn_of(&self, part: u32, index: u32) -> u32
         requires part { part < length self.now }
         requires index { index < chunk_count_of (header_at self.now part) }
         ensures exact { slice_get (turns_of self.now) result ≡ Some (part, index) }
-        // The chunk stands at no other turn.
+        // The chunk has no other turn.
         ensures only { (turn : ℕ) → slice_get (turns_of self.now) turn ≡ Some (part, index) → turn ≡ result }
         ensures within { result < sum_by chunk_count_of self.now }
     {
@@ -54,7 +55,7 @@ impl Geometry {
         here.first + here.mirrored(index)
     }
 
-    /// The part whose chunks are put at a turn, by halves.
+    /// The part of the chunk at a turn, searched by halves.
     fn part_at_turn(&self, turn: u32) -> u32
         requires { turn < sum_by chunk_count_of self.now }
         ensures within { result < length self.now }
@@ -87,7 +88,7 @@ impl Geometry {
     }
 }
 
-/// The chunk at a chunk's turn is that chunk.
+/// The chunk at the turn of a chunk is that chunk.
 pub fn chunk_at_its_turn(geometry: &Geometry, part: u32, index: u32) -> (u32, u32)
     requires part { part < length geometry.now }
     requires index { index < chunk_count_of (header_at geometry.now part) }

@@ -1,16 +1,16 @@
-//! The chunks that a window meets, from its corners.
+//! The chunks that a window meets, computed from its corners.
 
 ghost use Rattle.std.specs.Prelude.{◌≡◌, ◌≤◌, ◌+◌, ◌*◌, IfOk, OnOk};
 ghost use Rattle.exr_base.specs.Shape.{IsSide};
 ghost use Rattle.exr_chunks.specs.Part.{header_of, IsPart};
-ghost use Rattle.exr_chunks.specs.Window.{meeting_among, chunks_of_window, IsRun, AreColumns, IsRow};
+ghost use Rattle.exr_chunks.specs.Window.{meeting_among, chunks_of_window, IsRun, AreColumns, AreRows, IsRow};
 
 use crate::part::Part;
 use crate::sides::span;
 use exr_base::{Box2i, NoMemory};
 use std::alloc::Global;
 
-/// The pieces of a side from one on and before another.
+/// Pieces of a side: from `first` on, before `behind`.
 #[derive(Clone, Copy, Debug)]
 pub(crate) struct Run {
     pub first: u32,
@@ -59,29 +59,45 @@ impl Part {
         Ok(())
     }
 
-    /// The chunks that a window meets, rising.
-    pub fn chunks_of(&self, alloc: Global, window: Box2i) -> Result<Vec<u32>, NoMemory>
+    /// The columns of chunks that a window meets.
+    fn columns_met(&self, window: Box2i) -> Run
         requires { IsPart self.now }
-        ensures { IfOk result (λ chunks. chunks.items ≡ chunks_of_window (header_of self.now) window) }
+        ensures { AreColumns self.now window result }
     {
-        let mut chunks = Vec::new(alloc);
-        let columns = pieces_met(
+        pieces_met(
             self.window.x0,
             self.window.x1,
             self.columns,
             window.x0,
             window.x1,
-        );
-        if columns.behind <= columns.first {
-            return Ok(chunks);
-        }
-        let rows = pieces_met(
+        )
+    }
+
+    /// The rows of chunks that a window meets.
+    fn rows_met(&self, window: Box2i) -> Run
+        requires { IsPart self.now }
+        ensures { AreRows self.now window result }
+    {
+        pieces_met(
             self.window.y0,
             self.window.y1,
             self.rows,
             window.y0,
             window.y1,
-        );
+        )
+    }
+
+    /// The chunks that a window meets, in increasing order.
+    pub fn chunks_of(&self, alloc: Global, window: Box2i) -> Result<Vec<u32>, NoMemory>
+        requires { IsPart self.now }
+        ensures { IfOk result (λ chunks. chunks.items ≡ chunks_of_window (header_of self.now) window) }
+    {
+        let mut chunks = Vec::new(alloc);
+        let columns = self.columns_met(window);
+        if columns.behind <= columns.first {
+            return Ok(chunks);
+        }
+        let rows = self.rows_met(window);
         for row in rows.first..rows.behind {
             self.push_row(&mut chunks, window, columns, row)?;
         }

@@ -14,14 +14,19 @@ use Rattle.exr_base.specs.declared.channel.Kind.TheVariants.{Uint, Half, Float}
 use Rattle.exr_base.specs.Channel.{bytes_of}
 use Rattle.exr_base.specs.Sampling.{is_multiple, multiples_among, span_of, sample_count_of}
 use Rattle.exr_base.specs.Shape.{IsRegion, row_bytes_of, line_bytes_of, lines_bytes_of, raw_size_of, height_of}
-use Rattle.exr_frame.specs.declared.plan.Plan.{Plan}
-use Rattle.exr_frame.specs.Gather.{IsFull, IsGathered}
-use Rattle.exr_frame.specs.Judging.{Frame}
-use Rattle.exr_frame.specs.Place.{spots_of, spot_at, count_before, place_of, Byte, IsWithin}
-use Rattle.exr_frame.specs.Plan.{channel_at, is_inside, IsPlanOf}
-use Rattle.exr_frame.specs.Put.{IsPut, IsInRegion, raw_place_of, byte_of, chunk_byte}
+use Rattle.exr_layout.specs.Plan.{Matching}
+use Rattle.exr_frame.specs.Gather.{IsGathered}
+use Rattle.exr_layout.specs.Validation.{Frame}
+use Rattle.exr_base.specs.Sampling.{count_before}
+use Rattle.exr_base.specs.Boxes.{IsWithin}
+use Rattle.exr_layout.specs.Place.{placements_of, placement_at, place_of, Byte}
+use Rattle.exr_base.specs.Channel.{channel_at}
+use Rattle.exr_base.specs.Boxes.{is_inside}
+use Rattle.exr_layout.specs.Plan.{IsFull, IsPlanOf}
+use Rattle.exr_base.specs.Shape.{raw_place_of}
+use Rattle.exr_frame.specs.Buffer.{IsCopied, IsInRegion, byte_of, chunk_byte}
 use Rattle.exr_frame.proofs.Channelled.{channel_of_slice, kind_bytes, spot_listed}
-use Rattle.exr_frame.proofs.Columns.{multiple_numbered}
+use Rattle.exr_layout.proofs.Columns.{multiple_numbered}
 use Rattle.exr_frame.proofs.Gathered.{inside_of}
 
 -- ---- a byte's line
@@ -157,22 +162,22 @@ some_slice : (o : Option ℕ) → IsSome o → (s : ℕ) × (o ≡ Some s)
 some_slice (Some s) h = (s, refl)
 some_slice None h = absurd (cc)
 
-pub record Held (f : Frame) (part : List Channel) (plan : Plan) (region : Box2i) (i : ℕ) : Type 0 where
+pub record Held (f : Frame) (part : List Channel) (plan : Matching) (region : Box2i) (i : ℕ) : Type 0 where
   pub channel : ℕ
   pub at : Byte
-  pub in_region : IsInRegion f.window (spots_of f.planes) region at
-  pub has_channel : get_or plan.channels.items at.slice None ≡ Some channel
+  pub in_region : IsInRegion f.window (placements_of f.planes) region at
+  pub has_channel : get_or plan.channels at.slice None ≡ Some channel
   pub place : raw_place_of part region channel at.x at.y + at.byte ≡ i
 
-pub held : (f : Frame) (part : List Channel) (plan : Plan) (region : Box2i) (i : ℕ) → IsPlanOf f part plan → IsFull plan → is_inside region f.window ≡ true → IsRegion region → i < raw_size_of part region → Held f part plan region i
+pub held : (f : Frame) (part : List Channel) (plan : Matching) (region : Box2i) (i : ℕ) → IsPlanOf f part plan → IsFull plan → is_inside region f.window ≡ true → IsRegion region → i < raw_size_of part region → Held f part plan region i
 held f part plan region i is full within region_is h =
     let r = sample_of_raw part region i region_is h in
     let inside = inside_of region f.window within in
-    let s = some_slice (get_or plan.slices.items r.channel None) (full.each r.channel (omega (arith, r.listed, is.count))) in
+    let s = some_slice (get_or plan.slices r.channel None) (full.each r.channel (omega (arith, r.listed, is.count))) in
     let back = is.channels s.0 r.channel s.1 in
     let ch = channel_of_slice f part plan s.0 r.channel is back in
     let d = channel_at part r.channel in
-    let x = spot_at (spots_of f.planes) s.0 in
+    let x = placement_at (placements_of f.planes) s.0 in
     record {
       channel = r.channel;
       at = record { slice = s.0; x = r.x; y = r.y; byte = r.byte };
@@ -196,13 +201,13 @@ held f part plan region i is full within region_is h =
     }
 
 -- what was put is what is read
-pub given_back : (f : Frame) (part : List Channel) (plan : Plan) (region : Box2i) (raw old new again : List ℕ) → IsPlanOf f part plan → IsFull plan → is_inside region f.window ≡ true → IsRegion region → length raw ≡ raw_size_of part region
-    → IsPut (IsInRegion f.window (spots_of f.planes) region) (place_of f.window (spots_of f.planes)) (chunk_byte part region raw (spots_of f.planes) plan.channels.items) old new
-    → IsGathered f.window (spots_of f.planes) part region plan.channels.items new again → again ≡ raw
+pub given_back : (f : Frame) (part : List Channel) (plan : Matching) (region : Box2i) (raw old new again : List ℕ) → IsPlanOf f part plan → IsFull plan → is_inside region f.window ≡ true → IsRegion region → length raw ≡ raw_size_of part region
+    → IsCopied (IsInRegion f.window (placements_of f.planes) region) (place_of f.window (placements_of f.planes)) (chunk_byte part region raw (placements_of f.planes) plan.channels) old new
+    → IsGathered f.window (placements_of f.planes) part region plan.channels new again → again ≡ raw
 unfolding chunk_byte
 given_back f part plan region raw old new again is full within region_is size p g =
     same_number_lists again raw (g.size ∙ sym size) (λ i h.
     let k = held f part plan region i is full within region_is (subst (λ n. i < n) g.size h) in
-    ap (slice_index again) (sym k.place) ∙ g.bytes k.at k.channel k.in_region k.has_channel ∙ p.put k.at k.in_region
-    ∙ ap (λ (o : Option ℕ). byte_of part region raw (spot_at (spots_of f.planes) k.at.slice) o k.at) k.has_channel
+    ap (slice_index again) (sym k.place) ∙ g.bytes k.at k.channel k.in_region k.has_channel ∙ p.copied k.at k.in_region
+    ∙ ap (λ (o : Option ℕ). byte_of part region raw (placement_at (placements_of f.planes) k.at.slice) o k.at) k.has_channel
     ∙ ap (slice_index raw) k.place)

@@ -1,15 +1,8 @@
 pub mod Channelled
-pub mod Columns
-pub mod Counted
 pub mod Found
 pub mod Gathered
 pub mod Growing
 pub mod Lined
-pub mod Listed
-pub mod Matched
 pub mod Putting
-pub mod Rests
 pub mod Rowed
-pub mod Standing
-pub mod Stands
 pub mod Strips

@@ -4,35 +4,36 @@ use Rattle.std.specs.List.{sum_by}
 use Rattle.std.proofs.lemmas.Bool.{cases_lt}
 use Rattle.std.proofs.lemmas.Int.{ints}
 use Rattle.std.specs.Option.{is_some}
-use Rattle.std.proofs.lemmas.List.{take_all, get_or_default}
+use Rattle.std.proofs.lemmas.List.{take_all}
 use Rattle.std.proofs.lemmas.List.Sums.{sum_by-cons}
 use Rattle.exr_base.specs.declared.shape.Box2i.{Box2i}
 use Rattle.exr_base.specs.declared.channel.Channel.{Channel}
 use Rattle.exr_base.specs.Sampling.{span_of}
 use Rattle.exr_base.specs.Shape.{row_bytes_of, line_bytes_of, lines_bytes_of, raw_size_of, height_of}
-use Rattle.exr_frame.specs.declared.plan.Plan.{Plan}
-use Rattle.exr_frame.specs.Judging.{Frame, IsLawful}
-use Rattle.exr_frame.specs.Place.{spots_of, spot_at, place_of, Byte, IsNamed}
-use Rattle.exr_frame.specs.Plan.{channel_at, no_channel, IsPlanOf}
-use Rattle.exr_frame.specs.Put.{IsPut, IsInRegion, byte_of, chunk_byte}
+use Rattle.exr_layout.specs.Plan.{Matching}
+use Rattle.exr_layout.specs.Validation.{Frame, IsValid}
+use Rattle.exr_layout.specs.Place.{placements_of, placement_at, place_of, Byte, IsNamed}
+use Rattle.exr_base.specs.Channel.{channel_at, no_channel}
+use Rattle.exr_layout.specs.Plan.{IsPlanOf}
+use Rattle.exr_frame.specs.Buffer.{IsCopied, IsInRegion, byte_of, chunk_byte}
 use Rattle.exr_frame.specs.Rows.{IsOfChannel, IsOfLine, IsOfLines, IsInRow, IsOfSlice, IsOfFills, filled_byte}
 use Rattle.exr_frame.proofs.Channelled.{channel_of_slice}
 use Rattle.exr_frame.proofs.Putting.{put_more, put_none, put_again}
-use Rattle.exr_frame.proofs.Standing.{place_once}
+use Rattle.exr_layout.proofs.Standing.{place_once}
 
 -- two names of one place
-one_byte : (f : Frame) (j k : Byte) → IsLawful f → IsNamed f.window (spots_of f.planes) j → IsNamed f.window (spots_of f.planes) k → place_of f.window (spots_of f.planes) j ≡ place_of f.window (spots_of f.planes) k → j ≡ k
-one_byte f j k lawful a b e = place_once f lawful j k a b e
+one_byte : (f : Frame) (j k : Byte) → IsValid f → IsNamed f.window (placements_of f.planes) j → IsNamed f.window (placements_of f.planes) k → place_of f.window (placements_of f.planes) j ≡ place_of f.window (placements_of f.planes) k → j ≡ k
+one_byte f j k valid a b e = place_once f valid j k a b e
 
-pub line_more : (f : Frame) (region : Box2i) (places : List (Option ℕ)) (c : ℕ) (y : ℤ) (value : Byte → ℕ) (old mid new : List ℕ) → IsLawful f
-    → IsPut (IsOfLine f.window (spots_of f.planes) region places c y) (place_of f.window (spots_of f.planes)) value old mid
-    → IsPut (IsOfChannel f.window (spots_of f.planes) region places c y) (place_of f.window (spots_of f.planes)) value mid new
-    → IsPut (IsOfLine f.window (spots_of f.planes) region places (c + 1) y) (place_of f.window (spots_of f.planes)) value old new
-line_more f region places c y value old mid new lawful p q =
-    put_more (IsOfLine f.window (spots_of f.planes) region places c y) (IsOfChannel f.window (spots_of f.planes) region places c y) (IsOfLine f.window (spots_of f.planes) region places (c + 1) y)
-    (place_of f.window (spots_of f.planes)) value old mid new
+pub line_more : (f : Frame) (region : Box2i) (places : List (Option ℕ)) (c : ℕ) (y : ℤ) (value : Byte → ℕ) (old mid new : List ℕ) → IsValid f
+    → IsCopied (IsOfLine f.window (placements_of f.planes) region places c y) (place_of f.window (placements_of f.planes)) value old mid
+    → IsCopied (IsOfChannel f.window (placements_of f.planes) region places c y) (place_of f.window (placements_of f.planes)) value mid new
+    → IsCopied (IsOfLine f.window (placements_of f.planes) region places (c + 1) y) (place_of f.window (placements_of f.planes)) value old new
+line_more f region places c y value old mid new valid p q =
+    put_more (IsOfLine f.window (placements_of f.planes) region places c y) (IsOfChannel f.window (placements_of f.planes) region places c y) (IsOfLine f.window (placements_of f.planes) region places (c + 1) y)
+    (place_of f.window (placements_of f.planes)) value old mid new
     (λ j k a b e.
-    let same = one_byte f j k lawful a.named b.named e in
+    let same = one_byte f j k valid a.named b.named e in
     let slice : j.slice ≡ k.slice = ap (λ (t : Byte). t.slice) same in
     let channel : Some a.channel ≡ Some c = sym a.has_channel ∙ ap (λ (s : ℕ). get_or places s None) slice ∙ b.channel in
     let number : a.channel ≡ c = cc in
@@ -45,8 +46,8 @@ line_more f region places c y value old mid new lawful p q =
     (λ k w. record { named = w.named; within = w.within; channel = c; has_channel = w.channel; early = omega arith; line = w.line })
     p q
 
-pub line_begun : (f : Frame) (region : Box2i) (places : List (Option ℕ)) (y : ℤ) (value : Byte → ℕ) (old : List ℕ) → IsPut (IsOfLine f.window (spots_of f.planes) region places 0 y) (place_of f.window (spots_of f.planes)) value old old
-line_begun f region places y value old = put_none (IsOfLine f.window (spots_of f.planes) region places 0 y) (place_of f.window (spots_of f.planes)) value old (λ k w. omega (arith, w.early))
+pub line_begun : (f : Frame) (region : Box2i) (places : List (Option ℕ)) (y : ℤ) (value : Byte → ℕ) (old : List ℕ) → IsCopied (IsOfLine f.window (placements_of f.planes) region places 0 y) (place_of f.window (placements_of f.planes)) value old old
+line_begun f region places y value old = put_none (IsOfLine f.window (placements_of f.planes) region places 0 y) (place_of f.window (placements_of f.planes)) value old (λ k w. omega (arith, w.early))
 
 pub line_cases : (z from : ℤ) (n : ℕ) → z <ℤ (from +ℤ pos (n + 1)) → (z <ℤ (from +ℤ pos n)) ⊎ (z ≡ from +ℤ pos n)
 line_cases z from n h = elim (cases_lt (nat_abs ((from +ℤ pos (n + 1)) -ℤ z)) 2) [
@@ -63,16 +64,16 @@ at_line z y from n e h = omega (arith, ints)
 not_before : (z y from : ℤ) (n : ℕ) → z <ℤ (from +ℤ pos n) → z ≡ y → y ≡ from +ℤ pos n → ⊥
 not_before z y from n h e g = omega (arith, ints)
 
-pub lines_more : (f : Frame) (part : List Channel) (plan : Plan) (region : Box2i) (n : ℕ) (y : ℤ) (value : Byte → ℕ) (old mid new : List ℕ) → IsLawful f → IsPlanOf f part plan → y ≡ region.y0 +ℤ pos n
-    → IsPut (IsOfLines f.window (spots_of f.planes) region plan.channels.items n) (place_of f.window (spots_of f.planes)) value old mid
-    → IsPut (IsOfLine f.window (spots_of f.planes) region plan.channels.items (length part) y) (place_of f.window (spots_of f.planes)) value mid new
-    → IsPut (IsOfLines f.window (spots_of f.planes) region plan.channels.items (n + 1)) (place_of f.window (spots_of f.planes)) value old new
-lines_more f part plan region n y value old mid new lawful is at p q =
-    let places = plan.channels.items in
-    put_more (IsOfLines f.window (spots_of f.planes) region places n) (IsOfLine f.window (spots_of f.planes) region places (length part) y) (IsOfLines f.window (spots_of f.planes) region places (n + 1))
-    (place_of f.window (spots_of f.planes)) value old mid new
+pub lines_more : (f : Frame) (part : List Channel) (plan : Matching) (region : Box2i) (n : ℕ) (y : ℤ) (value : Byte → ℕ) (old mid new : List ℕ) → IsValid f → IsPlanOf f part plan → y ≡ region.y0 +ℤ pos n
+    → IsCopied (IsOfLines f.window (placements_of f.planes) region plan.channels n) (place_of f.window (placements_of f.planes)) value old mid
+    → IsCopied (IsOfLine f.window (placements_of f.planes) region plan.channels (length part) y) (place_of f.window (placements_of f.planes)) value mid new
+    → IsCopied (IsOfLines f.window (placements_of f.planes) region plan.channels (n + 1)) (place_of f.window (placements_of f.planes)) value old new
+lines_more f part plan region n y value old mid new valid is at p q =
+    let places = plan.channels in
+    put_more (IsOfLines f.window (placements_of f.planes) region places n) (IsOfLine f.window (placements_of f.planes) region places (length part) y) (IsOfLines f.window (placements_of f.planes) region places (n + 1))
+    (place_of f.window (placements_of f.planes)) value old mid new
     (λ j k a b e.
-    let same = one_byte f j k lawful a.named b.named e in
+    let same = one_byte f j k valid a.named b.named e in
     not_before j.y y region.y0 n a.early (ap (λ (t : Byte). t.y) same ∙ b.line) at)
     (λ k w. elim (line_cases k.y region.y0 n w.early) [
       | inl h ↦ inl (record { named = w.named; within = w.within; channel = w.channel; has_channel = w.has_channel; early = h })
@@ -85,20 +86,20 @@ lines_more f part plan region n y value old mid new lawful is at p q =
 pub none_above : (z from : ℤ) → from ≤ℤ z → z <ℤ (from +ℤ pos 0) → ⊥
 none_above z from h k = omega (arith, ints)
 
-pub lines_begun : (f : Frame) (region : Box2i) (places : List (Option ℕ)) (value : Byte → ℕ) (old : List ℕ) → IsPut (IsOfLines f.window (spots_of f.planes) region places 0) (place_of f.window (spots_of f.planes)) value old old
-lines_begun f region places value old = put_none (IsOfLines f.window (spots_of f.planes) region places 0) (place_of f.window (spots_of f.planes)) value old (λ k w. none_above k.y region.y0 w.within.top w.early)
+pub lines_begun : (f : Frame) (region : Box2i) (places : List (Option ℕ)) (value : Byte → ℕ) (old : List ℕ) → IsCopied (IsOfLines f.window (placements_of f.planes) region places 0) (place_of f.window (placements_of f.planes)) value old old
+lines_begun f region places value old = put_none (IsOfLines f.window (placements_of f.planes) region places 0) (place_of f.window (placements_of f.planes)) value old (λ k w. none_above k.y region.y0 w.within.top w.early)
 
 -- ---- fills
 
-pub slice_more : (f : Frame) (region : Box2i) (s n : ℕ) (y : ℤ) (value : Byte → ℕ) (old mid new : List ℕ) → IsLawful f → y ≡ region.y0 +ℤ pos n
-    → IsPut (IsOfSlice f.window (spots_of f.planes) region s n) (place_of f.window (spots_of f.planes)) value old mid
-    → IsPut (IsInRow f.window (spots_of f.planes) region s y) (place_of f.window (spots_of f.planes)) value mid new
-    → IsPut (IsOfSlice f.window (spots_of f.planes) region s (n + 1)) (place_of f.window (spots_of f.planes)) value old new
-slice_more f region s n y value old mid new lawful at p q =
-    put_more (IsOfSlice f.window (spots_of f.planes) region s n) (IsInRow f.window (spots_of f.planes) region s y) (IsOfSlice f.window (spots_of f.planes) region s (n + 1))
-    (place_of f.window (spots_of f.planes)) value old mid new
+pub slice_more : (f : Frame) (region : Box2i) (s n : ℕ) (y : ℤ) (value : Byte → ℕ) (old mid new : List ℕ) → IsValid f → y ≡ region.y0 +ℤ pos n
+    → IsCopied (IsOfSlice f.window (placements_of f.planes) region s n) (place_of f.window (placements_of f.planes)) value old mid
+    → IsCopied (IsInRow f.window (placements_of f.planes) region s y) (place_of f.window (placements_of f.planes)) value mid new
+    → IsCopied (IsOfSlice f.window (placements_of f.planes) region s (n + 1)) (place_of f.window (placements_of f.planes)) value old new
+slice_more f region s n y value old mid new valid at p q =
+    put_more (IsOfSlice f.window (placements_of f.planes) region s n) (IsInRow f.window (placements_of f.planes) region s y) (IsOfSlice f.window (placements_of f.planes) region s (n + 1))
+    (place_of f.window (placements_of f.planes)) value old mid new
     (λ j k a b e.
-    let same = one_byte f j k lawful a.named b.named e in
+    let same = one_byte f j k valid a.named b.named e in
     not_before j.y y region.y0 n a.early (ap (λ (t : Byte). t.y) same ∙ b.line) at)
     (λ k w. elim (line_cases k.y region.y0 n w.early) [
       | inl h ↦ inl (record { named = w.named; within = w.within; slice = w.slice; early = h })
@@ -108,27 +109,27 @@ slice_more f region s n y value old mid new lawful at p q =
     (λ k w. record { named = w.named; within = w.within; slice = w.slice; early = at_line k.y y region.y0 n w.line at })
     p q
 
-pub slice_begun : (f : Frame) (region : Box2i) (s : ℕ) (value : Byte → ℕ) (old : List ℕ) → IsPut (IsOfSlice f.window (spots_of f.planes) region s 0) (place_of f.window (spots_of f.planes)) value old old
-slice_begun f region s value old = put_none (IsOfSlice f.window (spots_of f.planes) region s 0) (place_of f.window (spots_of f.planes)) value old (λ k w. none_above k.y region.y0 w.within.top w.early)
+pub slice_begun : (f : Frame) (region : Box2i) (s : ℕ) (value : Byte → ℕ) (old : List ℕ) → IsCopied (IsOfSlice f.window (placements_of f.planes) region s 0) (place_of f.window (placements_of f.planes)) value old old
+slice_begun f region s value old = put_none (IsOfSlice f.window (placements_of f.planes) region s 0) (place_of f.window (placements_of f.planes)) value old (λ k w. none_above k.y region.y0 w.within.top w.early)
 
-pub fills_begun : (f : Frame) (region : Box2i) (places : List (Option ℕ)) (value : Byte → ℕ) (old : List ℕ) → IsPut (IsOfFills f.window (spots_of f.planes) region places 0) (place_of f.window (spots_of f.planes)) value old old
-fills_begun f region places value old = put_none (IsOfFills f.window (spots_of f.planes) region places 0) (place_of f.window (spots_of f.planes)) value old (λ k w. omega (arith, w.early))
+pub fills_begun : (f : Frame) (region : Box2i) (places : List (Option ℕ)) (value : Byte → ℕ) (old : List ℕ) → IsCopied (IsOfFills f.window (placements_of f.planes) region places 0) (place_of f.window (placements_of f.planes)) value old old
+fills_begun f region places value old = put_none (IsOfFills f.window (placements_of f.planes) region places 0) (place_of f.window (placements_of f.planes)) value old (λ k w. omega (arith, w.early))
 
 -- the channel of a slice, or none
-pub none_there : (places : List (Option ℕ)) (s : ℕ) (o : Option ℕ) → s < length places → o ≡ get_or places s o → is_some o ≡ false → get_or places s None ≡ None
-none_there places s None lt is h = sym is
-none_there places s (Some c) lt is h = absurd (cc)
+pub none_there : (places : List (Option ℕ)) (s : ℕ) (o : Option ℕ) → o ≡ get_or places s None → is_some o ≡ false → get_or places s None ≡ None
+none_there places s None is h = sym is
+none_there places s (Some c) is h = absurd (cc)
 
-pub some_there : (places : List (Option ℕ)) (s : ℕ) (o : Option ℕ) → s < length places → o ≡ get_or places s o → is_some o ≡ true → (c : ℕ) × (get_or places s None ≡ Some c)
-some_there places s None lt is h = absurd (cc)
-some_there places s (Some c) lt is h = (c, get_or_default places s None (Some c) lt ∙ sym is)
+pub some_there : (places : List (Option ℕ)) (s : ℕ) (o : Option ℕ) → o ≡ get_or places s None → is_some o ≡ true → (c : ℕ) × (get_or places s None ≡ Some c)
+some_there places s None is h = absurd (cc)
+some_there places s (Some c) is h = (c, sym is)
 
 -- a slice with a channel has no fill
 pub fills_passed : (f : Frame) (region : Box2i) (places : List (Option ℕ)) (s c : ℕ) (value : Byte → ℕ) (old new : List ℕ) → get_or places s None ≡ Some c
-    → IsPut (IsOfFills f.window (spots_of f.planes) region places s) (place_of f.window (spots_of f.planes)) value old new
-    → IsPut (IsOfFills f.window (spots_of f.planes) region places (s + 1)) (place_of f.window (spots_of f.planes)) value old new
+    → IsCopied (IsOfFills f.window (placements_of f.planes) region places s) (place_of f.window (placements_of f.planes)) value old new
+    → IsCopied (IsOfFills f.window (placements_of f.planes) region places (s + 1)) (place_of f.window (placements_of f.planes)) value old new
 fills_passed f region places s c value old new some p =
-    let before : (k : Byte) → IsOfFills f.window (spots_of f.planes) region places (s + 1) k → IsOfFills f.window (spots_of f.planes) region places s k = λ k w.
+    let before : (k : Byte) → IsOfFills f.window (placements_of f.planes) region places (s + 1) k → IsOfFills f.window (placements_of f.planes) region places s k = λ k w.
     elim (cases_lt k.slice s) [
       | inl h ↦ record { named = w.named; within = w.within; no_channel = w.no_channel; early = h }
       | inr h ↦ absurd (
@@ -136,21 +137,21 @@ fills_passed f region places s c value old new some p =
           let both : None ≡ Some c = sym w.no_channel ∙ ap (λ (t : ℕ). get_or places t None) last ∙ some in
           cc)
     ] in
-    put_again (IsOfFills f.window (spots_of f.planes) region places s) (place_of f.window (spots_of f.planes)) value (IsOfFills f.window (spots_of f.planes) region places (s + 1)) (place_of f.window (spots_of f.planes)) value old new
+    put_again (IsOfFills f.window (placements_of f.planes) region places s) (place_of f.window (placements_of f.planes)) value (IsOfFills f.window (placements_of f.planes) region places (s + 1)) (place_of f.window (placements_of f.planes)) value old new
     (λ k w. (k, before k w, refl, refl))
     (λ k w. (k, record { named = w.named; within = w.within; no_channel = w.no_channel; early = omega (arith, w.early) }, refl))
     p
 
-pub fills_more : (f : Frame) (region : Box2i) (places : List (Option ℕ)) (s lines : ℕ) (value : Byte → ℕ) (old mid new : List ℕ) → IsLawful f → get_or places s None ≡ None
-    → ((k : Byte) → IsInRegion f.window (spots_of f.planes) region k → k.y <ℤ (region.y0 +ℤ pos lines))
-    → IsPut (IsOfFills f.window (spots_of f.planes) region places s) (place_of f.window (spots_of f.planes)) value old mid
-    → IsPut (IsOfSlice f.window (spots_of f.planes) region s lines) (place_of f.window (spots_of f.planes)) value mid new
-    → IsPut (IsOfFills f.window (spots_of f.planes) region places (s + 1)) (place_of f.window (spots_of f.planes)) value old new
-fills_more f region places s lines value old mid new lawful none all p q =
-    put_more (IsOfFills f.window (spots_of f.planes) region places s) (IsOfSlice f.window (spots_of f.planes) region s lines) (IsOfFills f.window (spots_of f.planes) region places (s + 1))
-    (place_of f.window (spots_of f.planes)) value old mid new
+pub fills_more : (f : Frame) (region : Box2i) (places : List (Option ℕ)) (s lines : ℕ) (value : Byte → ℕ) (old mid new : List ℕ) → IsValid f → get_or places s None ≡ None
+    → ((k : Byte) → IsInRegion f.window (placements_of f.planes) region k → k.y <ℤ (region.y0 +ℤ pos lines))
+    → IsCopied (IsOfFills f.window (placements_of f.planes) region places s) (place_of f.window (placements_of f.planes)) value old mid
+    → IsCopied (IsOfSlice f.window (placements_of f.planes) region s lines) (place_of f.window (placements_of f.planes)) value mid new
+    → IsCopied (IsOfFills f.window (placements_of f.planes) region places (s + 1)) (place_of f.window (placements_of f.planes)) value old new
+fills_more f region places s lines value old mid new valid none all p q =
+    put_more (IsOfFills f.window (placements_of f.planes) region places s) (IsOfSlice f.window (placements_of f.planes) region s lines) (IsOfFills f.window (placements_of f.planes) region places (s + 1))
+    (place_of f.window (placements_of f.planes)) value old mid new
     (λ j k a b e.
-    let same = one_byte f j k lawful a.named b.named e in
+    let same = one_byte f j k valid a.named b.named e in
     let slice : j.slice ≡ k.slice = ap (λ (t : Byte). t.slice) same in
     omega (arith, a.early, b.slice))
     (λ k w. elim (cases_lt k.slice s) [
@@ -255,36 +256,36 @@ line_room part region n at long y e lt h k =
 under : (z from to : ℤ) → from ≤ℤ z → z ≤ℤ to → z <ℤ (from +ℤ pos (span_of from to))
 under z from to h k = omega (arith, ints)
 
-held_or_not : (f : Frame) (region : Box2i) (places : List (Option ℕ)) (lines : ℕ) (k : Byte) → IsInRegion f.window (spots_of f.planes) region k → k.y <ℤ (region.y0 +ℤ pos lines) → (o : Option ℕ) → get_or places k.slice None ≡ o
-    → IsOfLines f.window (spots_of f.planes) region places lines k ⊎ IsOfFills f.window (spots_of f.planes) region places (length (spots_of f.planes)) k
+held_or_not : (f : Frame) (region : Box2i) (places : List (Option ℕ)) (lines : ℕ) (k : Byte) → IsInRegion f.window (placements_of f.planes) region k → k.y <ℤ (region.y0 +ℤ pos lines) → (o : Option ℕ) → get_or places k.slice None ≡ o
+    → IsOfLines f.window (placements_of f.planes) region places lines k ⊎ IsOfFills f.window (placements_of f.planes) region places (length (placements_of f.planes)) k
 held_or_not f region places lines k w early None at = inr (record { named = w.named; within = w.within; no_channel = at; early = w.named.slice })
 held_or_not f region places lines k w early (Some c) at = inl (record { named = w.named; within = w.within; channel = c; has_channel = at; early = early })
 
 -- the bytes of fills, as those of the chunk
 pub fills_of_chunk : (f : Frame) (part : List Channel) (region : Box2i) (raw : List ℕ) (places : List (Option ℕ)) (count : ℕ) (old new : List ℕ)
-    → IsPut (IsOfFills f.window (spots_of f.planes) region places count) (place_of f.window (spots_of f.planes)) (filled_byte (spots_of f.planes)) old new
-    → IsPut (IsOfFills f.window (spots_of f.planes) region places count) (place_of f.window (spots_of f.planes)) (chunk_byte part region raw (spots_of f.planes) places) old new
+    → IsCopied (IsOfFills f.window (placements_of f.planes) region places count) (place_of f.window (placements_of f.planes)) (filled_byte (placements_of f.planes)) old new
+    → IsCopied (IsOfFills f.window (placements_of f.planes) region places count) (place_of f.window (placements_of f.planes)) (chunk_byte part region raw (placements_of f.planes) places) old new
 unfolding chunk_byte
 fills_of_chunk f part region raw places count old new p = record {
-  put = λ k w. p.put k w ∙ ap (λ (o : Option ℕ). byte_of part region raw (spot_at (spots_of f.planes) k.slice) o k) (sym w.no_channel);
+  copied = λ k w. p.copied k w ∙ ap (λ (o : Option ℕ). byte_of part region raw (placement_at (placements_of f.planes) k.slice) o k) (sym w.no_channel);
   others = p.others;
 }
 
 -- every pixel of a region lies on one of its lines
-pub lines_cover : (f : Frame) (region : Box2i) (k : Byte) → IsInRegion f.window (spots_of f.planes) region k → k.y <ℤ (region.y0 +ℤ pos (height_of region))
+pub lines_cover : (f : Frame) (region : Box2i) (k : Byte) → IsInRegion f.window (placements_of f.planes) region k → k.y <ℤ (region.y0 +ℤ pos (height_of region))
 lines_cover f region k w = under k.y region.y0 region.y1 w.within.top w.within.bottom
 
-pub all_put : (f : Frame) (part : List Channel) (plan : Plan) (region : Box2i) (lines : ℕ) (value : Byte → ℕ) (old mid new : List ℕ) → IsLawful f → IsPlanOf f part plan
-    → ((k : Byte) → IsInRegion f.window (spots_of f.planes) region k → k.y <ℤ (region.y0 +ℤ pos lines))
-    → IsPut (IsOfLines f.window (spots_of f.planes) region plan.channels.items lines) (place_of f.window (spots_of f.planes)) value old mid
-    → IsPut (IsOfFills f.window (spots_of f.planes) region plan.channels.items (length (spots_of f.planes))) (place_of f.window (spots_of f.planes)) value mid new
-    → IsPut (IsInRegion f.window (spots_of f.planes) region) (place_of f.window (spots_of f.planes)) value old new
-all_put f part plan region lines value old mid new lawful is all p q =
-    let places = plan.channels.items in
-    put_more (IsOfLines f.window (spots_of f.planes) region places lines) (IsOfFills f.window (spots_of f.planes) region places (length (spots_of f.planes))) (IsInRegion f.window (spots_of f.planes) region)
-    (place_of f.window (spots_of f.planes)) value old mid new
+pub all_put : (f : Frame) (part : List Channel) (plan : Matching) (region : Box2i) (lines : ℕ) (value : Byte → ℕ) (old mid new : List ℕ) → IsValid f → IsPlanOf f part plan
+    → ((k : Byte) → IsInRegion f.window (placements_of f.planes) region k → k.y <ℤ (region.y0 +ℤ pos lines))
+    → IsCopied (IsOfLines f.window (placements_of f.planes) region plan.channels lines) (place_of f.window (placements_of f.planes)) value old mid
+    → IsCopied (IsOfFills f.window (placements_of f.planes) region plan.channels (length (placements_of f.planes))) (place_of f.window (placements_of f.planes)) value mid new
+    → IsCopied (IsInRegion f.window (placements_of f.planes) region) (place_of f.window (placements_of f.planes)) value old new
+all_put f part plan region lines value old mid new valid is all p q =
+    let places = plan.channels in
+    put_more (IsOfLines f.window (placements_of f.planes) region places lines) (IsOfFills f.window (placements_of f.planes) region places (length (placements_of f.planes))) (IsInRegion f.window (placements_of f.planes) region)
+    (place_of f.window (placements_of f.planes)) value old mid new
     (λ j k a b e.
-    let same = one_byte f j k lawful a.named b.named e in
+    let same = one_byte f j k valid a.named b.named e in
     let slice : j.slice ≡ k.slice = ap (λ (t : Byte). t.slice) same in
     let both : Some a.channel ≡ None = sym a.has_channel ∙ ap (λ (s : ℕ). get_or places s None) slice ∙ b.no_channel in
     cc)

@@ -5,20 +5,20 @@ use Rattle.std.proofs.Math.ListN.{set}
 use Rattle.std.proofs.lemmas.Bool.{cases_lt}
 use Rattle.std.proofs.lemmas.Nat.{mul-le, div-add-mod', mod_below, div_below}
 use Rattle.std.proofs.lemmas.List.{get_or-set_same, get_or-set_other, length-set, length-take-le, get_or-append_right, get_or_append_left, get_or-take, get_or-drop, drop-drop}
-use Rattle.exr_frame.specs.Put.{IsPut}
+use Rattle.exr_frame.specs.Buffer.{IsCopied}
 use Rattle.exr_frame.specs.Rows.{IsOfRow, row_place, sample_byte}
 
 -- nothing was put
-pub put_none : {K : Type 0} (which : K → Type 0) (place value : K → ℕ) (l : List ℕ) → ((k : K) → which k → ⊥) → IsPut which place value l l
-put_none which place value l none = record { put = λ k w. absurd (none k w); others = λ at h. refl }
+pub put_none : {K : Type 0} (which : K → Type 0) (place value : K → ℕ) (l : List ℕ) → ((k : K) → which k → ⊥) → IsCopied which place value l l
+put_none which place value l none = record { copied = λ k w. absurd (none k w); others = λ at h. refl }
 
 -- the same bytes, by other names
 pub put_again : {K L : Type 0} (which : K → Type 0) (place value : K → ℕ) (which' : L → Type 0) (place' value' : L → ℕ) (old new : List ℕ)
     → ((k : L) → which' k → (j : K) × which j × (place j ≡ place' k) × (value j ≡ value' k))
     → ((j : K) → which j → (k : L) × which' k × (place' k ≡ place j))
-    → IsPut which place value old new → IsPut which' place' value' old new
+    → IsCopied which place value old new → IsCopied which' place' value' old new
 put_again which place value which' place' value' old new back there p = record {
-  put = λ k w. let b = back k w in ap (slice_index new) (sym b.2) ∙ p.put b.0 b.1 ∙ b.3;
+  copied = λ k w. let b = back k w in ap (slice_index new) (sym b.2) ∙ p.copied b.0 b.1 ∙ b.3;
   others = λ at h. p.others at (λ j w e. let t = there j w in h t.0 t.1 (t.2 ∙ e));
 }
 
@@ -26,11 +26,11 @@ put_again which place value which' place' value' old new back there p = record {
 pub put_more : {K : Type 0} (which which' all : K → Type 0) (place value : K → ℕ) (old mid new : List ℕ)
     → ((j k : K) → which j → which' k → place j ≡ place k → ⊥)
     → ((k : K) → all k → which k ⊎ which' k) → ((k : K) → which k → all k) → ((k : K) → which' k → all k)
-    → IsPut which place value old mid → IsPut which' place value mid new → IsPut all place value old new
+    → IsCopied which place value old mid → IsCopied which' place value mid new → IsCopied all place value old new
 put_more which which' all place value old mid new clear split left right p q = record {
-  put = λ k w. elim (split k w) [
-    | inl a ↦ q.others (place k) (λ j b e. clear k j a b (sym e)) ∙ p.put k a
-    | inr b ↦ q.put k b
+  copied = λ k w. elim (split k w) [
+    | inl a ↦ q.others (place k) (λ j b e. clear k j a b (sym e)) ∙ p.copied k a
+    | inr b ↦ q.copied k b
   ];
   others = λ at h. q.others at (λ k w. h k (right k w)) ∙ p.others at (λ k w. h k (left k w));
 }
@@ -47,7 +47,7 @@ pub record IsOfSample (i size : ℕ) (k : ℕ × ℕ) : Type 0 where
   pub sample : k.0 ≡ i
   pub byte : k.1 < size
 
-pub row_more : (at stride size i : ℕ) (value : ℕ × ℕ → ℕ) (old mid new : List ℕ) → size ≤ stride → IsPut (IsOfRow i size) (row_place at stride) value old mid → IsPut (IsOfSample i size) (row_place at stride) value mid new → IsPut (IsOfRow (i + 1) size) (row_place at stride) value old new
+pub row_more : (at stride size i : ℕ) (value : ℕ × ℕ → ℕ) (old mid new : List ℕ) → size ≤ stride → IsCopied (IsOfRow i size) (row_place at stride) value old mid → IsCopied (IsOfSample i size) (row_place at stride) value mid new → IsCopied (IsOfRow (i + 1) size) (row_place at stride) value old new
 row_more at stride size i value old mid new fits p q =
     put_more (IsOfRow i size) (IsOfSample i size) (IsOfRow (i + 1) size) (row_place at stride) value old mid new
     (λ j k a b e. row_apart at stride size j k i fits a.sample a.byte b.sample e)
@@ -59,20 +59,20 @@ row_more at stride size i value old mid new fits p q =
     (λ k w. record { sample = omega (arith, w.sample); byte = w.byte })
     p q
 
-pub row_none : (at stride size : ℕ) (value : ℕ × ℕ → ℕ) (l : List ℕ) → IsPut (IsOfRow 0 size) (row_place at stride) value l l
+pub row_none : (at stride size : ℕ) (value : ℕ × ℕ → ℕ) (l : List ℕ) → IsCopied (IsOfRow 0 size) (row_place at stride) value l l
 row_none at stride size value l = put_none (IsOfRow 0 size) (row_place at stride) value l (λ k w. omega (arith, w.sample))
 
-pub sample_none : (at stride i : ℕ) (value : ℕ × ℕ → ℕ) (l : List ℕ) → IsPut (IsOfSample i 0) (row_place at stride) value l l
+pub sample_none : (at stride i : ℕ) (value : ℕ × ℕ → ℕ) (l : List ℕ) → IsCopied (IsOfSample i 0) (row_place at stride) value l l
 sample_none at stride i value l = put_none (IsOfSample i 0) (row_place at stride) value l (λ k w. omega (arith, w.byte))
 
 -- one byte more of a sample
 pub byte_more : (at stride i d to v : ℕ) (value : ℕ × ℕ → ℕ) (l m : List ℕ) → to ≡ at + i * stride + d → to < length m → v ≡ value (i, d)
-    → IsPut (IsOfSample i d) (row_place at stride) value l m → IsPut (IsOfSample i (d + 1)) (row_place at stride) value l (set m to v)
+    → IsCopied (IsOfSample i d) (row_place at stride) value l m → IsCopied (IsOfSample i (d + 1)) (row_place at stride) value l (set m to v)
 byte_more at stride i d to v value l m e h here p = record {
-  put = λ k w. elim (cases_lt k.1 d) [
+  copied = λ k w. elim (cases_lt k.1 d) [
     | inl before ↦
         let other : row_place at stride k ≢ to = λ same. let f : k.0 * stride ≡ i * stride = ap (λ n. n * stride) w.sample in omega arith in
-        get_or-set_other m to (row_place at stride k) v 0 other ∙ p.put k (record { sample = w.sample; byte = before })
+        get_or-set_other m to (row_place at stride k) v 0 other ∙ p.copied k (record { sample = w.sample; byte = before })
     | inr past ↦
         let last : k.1 ≡ d = omega (arith, w.byte) in
         let same : row_place at stride k ≡ to = let f : k.0 * stride ≡ i * stride = ap (λ n. n * stride) w.sample in omega arith in
@@ -92,7 +92,7 @@ room_at at stride samples size len i room lt =
     omega arith
 
 pub sample_of_two : (at stride i a b : ℕ) (value : ℕ × ℕ → ℕ) (l : List ℕ) → at + i * stride + 2 ≤ length l → a ≡ value (i, 0) → b ≡ value (i, 1)
-    → IsPut (IsOfSample i 2) (row_place at stride) value l (set (set l (at + i * stride) a) (at + i * stride + 1) b)
+    → IsCopied (IsOfSample i 2) (row_place at stride) value l (set (set l (at + i * stride) a) (at + i * stride + 1) b)
 sample_of_two at stride i a b value l h va vb =
     let l1 = set l (at + i * stride) a in
     let n1 = length-set l (at + i * stride) a in
@@ -100,7 +100,7 @@ sample_of_two at stride i a b value l h va vb =
     (byte_more at stride i 0 (at + i * stride) a value l l (omega arith) (omega arith) va (sample_none at stride i value l))
 
 pub sample_of_four : (at stride i a b c d : ℕ) (value : ℕ × ℕ → ℕ) (l : List ℕ) → at + i * stride + 4 ≤ length l → a ≡ value (i, 0) → b ≡ value (i, 1) → c ≡ value (i, 2) → d ≡ value (i, 3)
-    → IsPut (IsOfSample i 4) (row_place at stride) value l (set (set (set (set l (at + i * stride) a) (at + i * stride + 1) b) (at + i * stride + 2) c) (at + i * stride + 3) d)
+    → IsCopied (IsOfSample i 4) (row_place at stride) value l (set (set (set (set l (at + i * stride) a) (at + i * stride + 1) b) (at + i * stride + 2) c) (at + i * stride + 3) d)
 sample_of_four at stride i a b c d value l h va vb vc vd =
     let l1 = set l (at + i * stride) a in
     let l2 = set l1 (at + i * stride + 1) b in
@@ -116,7 +116,7 @@ sample_of_four at stride i a b c d value l h va vb vc vd =
 -- ---- a whole row at once
 
 pub row_copied : (at samples size : ℕ) (from old new : List ℕ) → 0 < size → length from ≡ samples * size → at + length from ≤ length old → new ≡ take at old ++ (from ++ drop (at + length from) old)
-    → IsPut (IsOfRow samples size) (row_place at size) (sample_byte from size) old new
+    → IsCopied (IsOfRow samples size) (row_place at size) (sample_byte from size) old new
 row_copied at samples size from old new some len room is =
     let front = length-take-le at old (omega arith) in
     let inside : (n : ℕ) → n < length from → slice_index new (at + n) ≡ slice_index from n = λ n h.
@@ -128,7 +128,7 @@ row_copied at samples size from old new some len room is =
     let p : (k.0 + 1) * size ≤ samples * size = mul-le (k.0 + 1) size samples size (omega (arith, w.sample)) (omega arith) in
     omega (arith, w.byte) in
     record {
-      put = λ k w. let e : row_place at size k ≡ at + (k.0 * size + k.1) = omega arith in ap (slice_index new) e ∙ inside (k.0 * size + k.1) (row_within k w);
+      copied = λ k w. let e : row_place at size k ≡ at + (k.0 * size + k.1) = omega arith in ap (slice_index new) e ∙ inside (k.0 * size + k.1) (row_within k w);
       others = λ j free. elim (cases_lt j at) [
         | inl h ↦ ap (λ l. slice_index l j) is ∙ get_or_append_left (take at old) (from ++ drop (at + length from) old) 0 j (omega arith) ∙ get_or-take at old j 0 h
         | inr h ↦ elim (cases_lt (j - at) (length from)) [

@@ -1,9 +1,3 @@
-pub mod Fault
+pub mod Buffer
 pub mod Gather
-pub mod Inverse
-pub mod Judging
-pub mod Near
-pub mod Place
-pub mod Plan
-pub mod Put
 pub mod Rows

@@ -1,24 +1,25 @@
-//! The raw bytes of a region out of a buffer: line by line, on each line channel by channel.
+//! Copying the raw bytes of a region out of a buffer: line by line, on each line channel by channel.
 
 ghost use Rattle.std.specs.Prelude.{◌≡◌, ◌≤◌, ◌<◌, ◌+◌, ◌*◌, ◌≤ℤ◌, ◌-ℤ◌, ◌^◌, IsTrue, IfOk, nat_abs, length, take, sum_by};
 ghost use Rattle.exr_base.specs.Channel.{bytes_of};
 ghost use Rattle.exr_base.specs.Sampling.{sample_count_of};
 ghost use Rattle.exr_base.specs.Shape.{IsShape, IsRegion, row_bytes_of, line_bytes_of, lines_bytes_of, raw_size_of, height_of};
-ghost use Rattle.exr_frame.specs.Place.{spots_of, spot_at};
-ghost use Rattle.exr_frame.specs.Plan.{channel_at, is_inside, IsPlanOf};
+ghost use Rattle.exr_layout.specs.Place.{placements_of, placement_at};
+ghost use Rattle.exr_base.specs.Channel.{channel_at};
+ghost use Rattle.exr_base.specs.Boxes.{is_inside};
+ghost use Rattle.exr_layout.specs.Plan.{IsFull, IsPlanOf};
 ghost use Rattle.exr_frame.specs.Rows.{IsInRow, IsLineOf};
-ghost use Rattle.exr_frame.specs.Gather.{IsFull, IsGathered, IsGrown, held_byte, line_place, raw_place, buffer_byte, IsReadRow, IsReadLine, IsReadLines};
+ghost use Rattle.exr_frame.specs.Gather.{IsGathered, IsGrown, held_byte, line_place, raw_place, buffer_byte, IsReadRow, IsReadLine, IsReadLines};
 
-use crate::layout::Layout;
-use crate::lines::rows_of;
-use crate::plan::Plan;
-use crate::rows::has_line;
+use crate::copy_out::take_samples;
+use crate::rows::slice_on_line;
+use crate::scattering::rows_of;
 use crate::strip::strip_of;
-use crate::takes::take_samples;
 use exr_base::{Box2i, NoMemory, Shape};
+use exr_layout::{Layout, Plan};
 use std::alloc::Global;
 
-/// Adds the samples of a slice on a line of a region.
+/// Appends the samples of a slice on a line of a region.
 fn take_row(
     layout: &Layout,
     plan: &Plan,
@@ -28,34 +29,34 @@ fn take_row(
     from: &[u8],
     raw: &mut Vec<u8>,
 ) -> Result<(), NoMemory>
-    requires plan { plan.now.spots.items ≡ spots_of layout.now.planes }
+    requires plan { plan.now.placements ≡ placements_of layout.now.planes }
     requires region { IsRegion region }
     requires inside { IsTrue (is_inside region layout.now.window) }
     requires line { IsLineOf layout.now region number y }
     requires from { length from.now ≡ layout.now.buffer }
     requires small { length raw.old.items ≤ 2 ^ 26 }
-    ensures { IfOk result (λ _. IsGrown (IsInRow layout.now.window (spots_of layout.now.planes) region number y)
-        (line_place (spots_of layout.now.planes) region (length raw.old.items))
-        (held_byte layout.now.window (spots_of layout.now.planes) from.now)
-        (sample_count_of (spot_at (spots_of layout.now.planes) number).sampling region.x0 region.x1
-        * bytes_of (spot_at (spots_of layout.now.planes) number).kind)
+    ensures { IfOk result (λ _. IsGrown (IsInRow layout.now.window (placements_of layout.now.planes) region number y)
+        (line_place (placements_of layout.now.planes) region (length raw.old.items))
+        (held_byte layout.now.window (placements_of layout.now.planes) from.now)
+        (sample_count_of (placement_at (placements_of layout.now.planes) number).sampling region.x0 region.x1
+        * bytes_of (placement_at (placements_of layout.now.planes) number).kind)
         raw.old.items raw.new.items) }
 {
     let Some(strip) = strip_of(layout, plan, number, region, y) else {
         return Ok(());
     };
-    let spot = &plan.spots[number];
+    let placement = plan.placement(number);
     take_samples(
         from,
         strip.at,
-        spot.stride as usize,
-        spot.kind,
+        placement.stride as usize,
+        placement.kind,
         strip.samples,
         raw,
     )
 }
 
-/// Adds the samples that a channel has on a line.
+/// Appends the samples that a channel has on a line.
 fn take_channel(
     layout: &Layout,
     plan: &Plan,
@@ -77,22 +78,18 @@ fn take_channel(
         + sum_by (row_bytes_of shape.now.region y) (take c shape.now.channels.now) }
     requires small { length raw.old.items ≤ 2 ^ 26 }
     ensures { IfOk result (λ _. IsGrown
-        (IsReadRow layout.now.window (spots_of layout.now.planes) shape.now.region plan.now.channels.items c y)
+        (IsReadRow layout.now.window (placements_of layout.now.planes) shape.now.region plan.now.channels c y)
         (raw_place shape.now.channels.now shape.now.region)
-        (buffer_byte layout.now.window (spots_of layout.now.planes) from.now)
+        (buffer_byte layout.now.window (placements_of layout.now.planes) from.now)
         (row_bytes_of shape.now.region y (channel_at shape.now.channels.now c)) raw.old.items raw.new.items) }
 {
-    let Some(number) = plan.slices[c] else {
+    let Some(number) = slice_on_line(layout, plan, shape, c, y) else {
         return Ok(());
     };
-    if has_line(layout, plan, number as usize, y) {
-        take_row(layout, plan, number as usize, shape.region, y, from, raw)
-    } else {
-        Ok(())
-    }
+    take_row(layout, plan, number, shape.region, y, from, raw)
 }
 
-/// Adds the samples of a line.
+/// Appends the samples of a line.
 fn take_line(
     layout: &Layout,
     plan: &Plan,
@@ -111,10 +108,10 @@ fn take_line(
     requires at { length raw.old.items ≡ lines_bytes_of shape.now.channels.now shape.now.region (nat_abs (y -ℤ shape.now.region.y0)) }
     requires small { length raw.old.items + line_bytes_of shape.now.channels.now shape.now.region y ≤ 2 ^ 26 }
     ensures { IfOk result (λ _. IsGrown
-        (IsReadLine layout.now.window (spots_of layout.now.planes) shape.now.region plan.now.channels.items
+        (IsReadLine layout.now.window (placements_of layout.now.planes) shape.now.region plan.now.channels
         (length shape.now.channels.now) y)
         (raw_place shape.now.channels.now shape.now.region)
-        (buffer_byte layout.now.window (spots_of layout.now.planes) from.now)
+        (buffer_byte layout.now.window (placements_of layout.now.planes) from.now)
         (line_bytes_of shape.now.channels.now shape.now.region y) raw.old.items raw.new.items) }
 {
     for c in 0..shape.channels.len() {
@@ -123,7 +120,7 @@ fn take_line(
     Ok(())
 }
 
-/// Adds the samples of all lines.
+/// Appends the samples of all lines.
 fn take_lines(
     layout: &Layout,
     plan: &Plan,
@@ -139,10 +136,10 @@ fn take_lines(
     requires at { length raw.old.items ≡ 0 }
     requires small { raw_size_of shape.now.channels.now shape.now.region ≤ 2 ^ 26 }
     ensures { IfOk result (λ _. IsGrown
-        (IsReadLines layout.now.window (spots_of layout.now.planes) shape.now.region plan.now.channels.items
+        (IsReadLines layout.now.window (placements_of layout.now.planes) shape.now.region plan.now.channels
         (height_of shape.now.region))
         (raw_place shape.now.channels.now shape.now.region)
-        (buffer_byte layout.now.window (spots_of layout.now.planes) from.now)
+        (buffer_byte layout.now.window (placements_of layout.now.planes) from.now)
         (raw_size_of shape.now.channels.now shape.now.region) raw.old.items raw.new.items) }
 {
     for line in 0..rows_of(shape.region) {
@@ -158,7 +155,8 @@ fn take_lines(
     Ok(())
 }
 
-/// The raw bytes of a region of the window, of channels that all have a slice.
+/// Copies the raw bytes of a region out of the buffer `from`. Each channel of the part has a slice, and the region lies
+/// in the window.
 pub fn gather(
     alloc: Global,
     layout: &Layout,
@@ -172,8 +170,8 @@ pub fn gather(
     requires inside { IsTrue (is_inside shape.now.region layout.now.window) }
     requires from { length from.now ≡ layout.now.buffer }
     requires small { raw_size_of shape.now.channels.now shape.now.region ≤ 2 ^ 26 }
-    ensures { IfOk result (λ raw. IsGathered layout.now.window (spots_of layout.now.planes) shape.now.channels.now
-        shape.now.region plan.now.channels.items from.now raw.items) }
+    ensures { IfOk result (λ raw. IsGathered layout.now.window (placements_of layout.now.planes) shape.now.channels.now
+        shape.now.region plan.now.channels from.now raw.items) }
 {
     let mut raw = Vec::with_capacity(alloc, shape.raw_size() as usize)?;
     take_lines(layout, plan, shape, from, &mut raw)?;

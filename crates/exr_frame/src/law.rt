@@ -1,33 +1,17 @@
-//! What holds of every layout. The contract of each call here is the law.
+//! Copying out gives back what was copied in. The contract of the call is the law.
 
-ghost use Rattle.std.specs.Prelude.{◌≡◌, ◌≤◌, ◌<◌, ◌^◌, IsTrue, IfOk, length};
+ghost use Rattle.std.specs.Prelude.{◌≡◌, ◌≤◌, ◌^◌, IsTrue, IfOk, length};
 ghost use Rattle.exr_base.specs.Shape.{IsShape, raw_size_of};
-ghost use Rattle.exr_frame.specs.Gather.{IsFull};
-ghost use Rattle.exr_frame.specs.Place.{Byte, IsNamed, place_of, spots_of};
-ghost use Rattle.exr_frame.specs.Plan.{is_inside, IsPlanOf};
+ghost use Rattle.exr_base.specs.Boxes.{is_inside};
+ghost use Rattle.exr_layout.specs.Plan.{IsFull, IsPlanOf};
 
 use crate::gathering::gather;
-use crate::layout::Layout;
-use crate::lines::scatter;
-use crate::plan::Plan;
+use crate::scattering::scatter;
 use exr_base::{NoMemory, Shape};
+use exr_layout::{Layout, Plan};
 use std::alloc::Global;
 
-/// Each byte of a sample that a layout names has a place of its own in the buffer. The call does nothing.
-pub fn each_byte_has_its_place(layout: &Layout)
-    // It lies in the buffer.
-    ensures within { (k : Byte) → IsNamed layout.now.window (spots_of layout.now.planes) k
-        → place_of layout.now.window (spots_of layout.now.planes) k < layout.now.buffer }
-    // No other byte stands there.
-    ensures once { (j : Byte) → (k : Byte) → IsNamed layout.now.window (spots_of layout.now.planes) j
-        → IsNamed layout.now.window (spots_of layout.now.planes) k
-        → place_of layout.now.window (spots_of layout.now.planes) j
-        ≡ place_of layout.now.window (spots_of layout.now.planes) k → j ≡ k }
-{
-    let _lawful = layout.planes();
-}
-
-/// What `scatter` puts, `gather` gives back, where each channel has a slice and the region lies in the window.
+/// `gather` gives back what `scatter` copied, if each channel has a slice and the region lies in the window.
 pub fn gather_gives_back(
     alloc: Global,
     layout: &Layout,

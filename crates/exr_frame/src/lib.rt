@@ -1,29 +1,15 @@
-//! Buffers of strided planes: where the samples of a window stand in a buffer that a caller describes, and the putting
-//! of samples there, each in its place and no other byte changed.
+//! Samples between the raw bytes of a region and a buffer of strided planes: copied into the buffer, each byte to its
+//! place and no other byte changed, and copied out of it again.
 #![tactic(auto)]
 
-mod fault;
+mod copy_in;
+mod copy_out;
 mod gathering;
-mod judging;
 mod law;
-mod layout;
-mod lines;
-mod names;
-mod plan;
-mod planes;
 mod rows;
-mod spot;
-mod strides;
+mod scattering;
 mod strip;
-mod takes;
-#[cfg(test)]
-mod tests;
 
-pub use fault::{LayoutFault, MatchFault};
 pub use gathering::gather;
-pub use law::{each_byte_has_its_place, gather_gives_back};
-pub use layout::Layout;
-pub use lines::scatter;
-pub use names::has_few_slices;
-pub use plan::{Plan, match_part};
-pub use planes::{Plane, Run, Slice};
+pub use law::gather_gives_back;
+pub use scattering::scatter;

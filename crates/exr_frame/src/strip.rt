@@ -1,28 +1,27 @@
-//! The samples that a slice has on one line of a region, within the window: how many, and where they stand.
+//! The samples that a slice has on one line of a region, within the window: how many, and where they are stored.
 
 ghost use Rattle.std.specs.Prelude.{◌≡◌, ◌≤◌, ◌<◌, ◌≤ℤ◌, ◌-ℤ◌, ◌^◌, pos, neg_ℤ, MatchOption};
 ghost use Rattle.exr_base.specs.Shape.{IsRegion, IsSide};
 ghost use Rattle.exr_base.specs.Sampling.{sample_count_of};
-ghost use Rattle.exr_frame.specs.Place.{spots_of, spot_at, count_before, place_behind};
+ghost use Rattle.exr_base.specs.Sampling.{count_before};
+ghost use Rattle.exr_layout.specs.Place.{placements_of, placement_at, place_after};
 ghost use Rattle.exr_frame.specs.Rows.{IsStrip, HasNone, IsLineOf, low_of, high_of};
 
-use crate::layout::Layout;
-use crate::plan::Plan;
-use crate::spot::Spot;
 use exr_base::{Box2i, sample_count};
+use exr_layout::{Layout, Placement, Plan};
 
 /// Samples of a slice on a line.
 #[derive(Clone, Copy, Debug)]
 pub(crate) struct Strip {
-    /// Where the first stands in the buffer.
+    /// Offset of the first in the buffer.
     pub(crate) at: usize,
     pub(crate) samples: usize,
-    /// How many samples the line has before the first.
+    /// Number of samples of the line before the first.
     pub(crate) skip: usize,
 }
 
-/// The number of multiples of `sampling` from one place to another, both included: by no division where each place is
-/// one, since each row asks.
+/// The number of multiples of `sampling` from one place to another, both included. It is called for each row, so a
+/// sampling of 1 takes no division.
 pub(crate) fn count_between(sampling: u32, from: i32, to: i32) -> u32
     requires sampling { 1 ≤ sampling }
     requires from_low { neg_ℤ (pos (2 ^ 30)) ≤ℤ from }
@@ -38,7 +37,7 @@ pub(crate) fn count_between(sampling: u32, from: i32, to: i32) -> u32
     }
 }
 
-/// How many multiples come before a place, from another place on.
+/// Number of multiples of `sampling` from one place on and before another.
 fn count_before(sampling: u32, from: i32, to: i32) -> u64
     requires sampling { 1 ≤ sampling }
     requires low { neg_ℤ (pos (2 ^ 30)) ≤ℤ from }
@@ -49,25 +48,29 @@ fn count_before(sampling: u32, from: i32, to: i32) -> u64
     u64::from(count_between(sampling, from, to - 1))
 }
 
-/// Where the sample with so many lines and columns before it begins.
-fn place(spot: &Spot, line: u64, column: u64) -> u64
-    requires { place_behind spot.now line column < 2 ^ 64 }
-    ensures { result ≡ place_behind spot.now line column }
+/// Offset of the sample that has `line` rows of its plane and `column` samples of its row before it.
+fn place(placement: &Placement, line: u64, column: u64) -> u64
+    requires { place_after placement.now line column < 2 ^ 64 }
+    ensures { result ≡ place_after placement.now line column }
 {
-    spot.base + line * spot.row_stride + spot.run + column * spot.stride + spot.at
+    placement.base
+        + line * placement.row_stride
+        + placement.run
+        + column * placement.stride
+        + placement.at
 }
 
 /// The samples of a slice on line `y` between two columns.
 fn strip_between(
     layout: &Layout,
-    spot: &Spot,
+    placement: &Placement,
     number: usize,
     region: Box2i,
     y: i32,
     low: i32,
     high: i32,
 ) -> Option<Strip>
-    requires spot { spot.now ≡ spot_at (spots_of layout.now.planes) number }
+    requires placement { placement.now ≡ placement_at (placements_of layout.now.planes) number }
     requires region { IsRegion region }
     requires line { IsLineOf layout.now region number y }
     requires low { low ≡ low_of layout.now.window region }
@@ -76,16 +79,16 @@ fn strip_between(
     ensures { MatchOption result (HasNone layout.now region number y) (IsStrip layout.now region number y) }
 {
     let window = layout.window();
-    let samples = count_between(spot.sampling, low, high);
+    let samples = count_between(placement.sampling, low, high);
     if samples == 0 {
         return None;
     }
-    let line = count_before(spot.row_sampling, window.y0, y);
-    let column = count_before(spot.sampling, window.x0, low);
+    let line = count_before(placement.row_sampling, window.y0, y);
+    let column = count_before(placement.sampling, window.x0, low);
     Some(Strip {
-        at: place(spot, line, column) as usize,
+        at: place(placement, line, column) as usize,
         samples: samples as usize,
-        skip: count_before(spot.sampling, region.x0, low) as usize,
+        skip: count_before(placement.sampling, region.x0, low) as usize,
     })
 }
 
@@ -97,7 +100,7 @@ pub(crate) fn strip_of(
     region: Box2i,
     y: i32,
 ) -> Option<Strip>
-    requires plan { plan.now.spots.items ≡ spots_of layout.now.planes }
+    requires plan { plan.now.placements ≡ placements_of layout.now.planes }
     requires region { IsRegion region }
     requires line { IsLineOf layout.now region number y }
     ensures { MatchOption result (HasNone layout.now region number y) (IsStrip layout.now region number y) }
@@ -108,5 +111,5 @@ pub(crate) fn strip_of(
     if high < low {
         return None;
     }
-    strip_between(layout, &plan.spots[number], number, region, y, low, high)
+    strip_between(layout, plan.placement(number), number, region, y, low, high)
 }

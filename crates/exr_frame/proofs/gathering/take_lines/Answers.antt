@@ -2,13 +2,13 @@ use Rattle.std.proofs.Common.{arith, refl, subst, w32, pos, ◌≡◌, ◌∙◌
 use Rattle.std.proofs.lemmas.Int.{ints}
 use Rattle.exr_base.specs.Shape.{lines_bytes_of, raw_size_of, height_of}
 use Rattle.exr_frame.specs.Gather.{IsGrown, raw_place, buffer_byte, IsReadLines}
-use Rattle.exr_frame.specs.Place.{spots_of}
+use Rattle.exr_layout.specs.Place.{placements_of}
 use Rattle.exr_frame.proofs.Gathered.{lines_read_begun, lines_read_more, lines_behind}
 use Rattle.exr_frame.proofs.Lined.{line_room}
 use Rattle.exr_frame.proofs.gathering.take_lines.Goals as goal
 
 pub loop-line-init : goal.loop-line-init
-loop-line-init c = lines_read_begun c.args.layout.now c.args.shape.now.channels.now c.args.shape.now.region c.args.plan.now.channels.items c.args.from.now c.args.raw.now.items
+loop-line-init c = lines_read_begun c.args.layout.now c.args.shape.now.channels.now c.args.shape.now.region c.args.plan.now.channels c.args.from.now c.args.raw.now.items
 
 pub take_line-requires-clause-at : goal.take_line-requires-clause-at
 take_line-requires-clause-at c =
@@ -40,4 +40,4 @@ loop-line-preserved c =
 pub returns : goal.returns
 returns c =
     let all : c.loop-line.line ≡ c.rows_of-line-end.result = omega arith in
-    subst (λ (n : ℕ). IsGrown (IsReadLines c.args.layout.now.window (spots_of c.args.layout.now.planes) c.args.shape.now.region c.args.plan.now.channels.items n) (raw_place c.args.shape.now.channels.now c.args.shape.now.region) (buffer_byte c.args.layout.now.window (spots_of c.args.layout.now.planes) c.args.from.now) (lines_bytes_of c.args.shape.now.channels.now c.args.shape.now.region n) c.args.raw.now.items c.loop-line.raw.items) (all ∙ c.rows_of-line-end.ensures.exact) c.loop-line.invariant
+    subst (λ (n : ℕ). IsGrown (IsReadLines c.args.layout.now.window (placements_of c.args.layout.now.planes) c.args.shape.now.region c.args.plan.now.channels n) (raw_place c.args.shape.now.channels.now c.args.shape.now.region) (buffer_byte c.args.layout.now.window (placements_of c.args.layout.now.planes) c.args.from.now) (lines_bytes_of c.args.shape.now.channels.now c.args.shape.now.region n) c.args.raw.now.items c.loop-line.raw.items) (all ∙ c.rows_of-line-end.ensures.exact) c.loop-line.invariant

@@ -1,7 +1,7 @@
 use Rattle.std.proofs.Common.{arith, ap, sym, w64, to_z, of_z, pos, nat_abs, ◌+ℤ◌, ◌-ℤ◌, ◌≡◌, ◌∙◌}
 use Rattle.std.proofs.lemmas.Int.{ints}
 use Rattle.exr_base.specs.Sampling.{multiples_among, span_of}
-use Rattle.exr_frame.proofs.Columns.{among_each}
+use Rattle.exr_layout.proofs.Columns.{among_each}
 use Rattle.exr_frame.proofs.strip.count_between.Goals as goal
 
 pub returns-then-sampling-eq1 : goal.returns-then-sampling-eq1

@@ -14,3 +14,6 @@ geometry_of-requires c =
       few = rw c.parts.ensures.value (head_few c.args.head.now head);
       short = rw c.parts.ensures.value head.spelled.few;
     }
+
+pub returns-clause-measured : goal.returns-clause-measured
+returns-clause-measured c = head_measured c.args.head.now c.parts.ensures.head

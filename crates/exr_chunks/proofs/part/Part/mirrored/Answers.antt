@@ -1,5 +1,8 @@
 -- A chunk stands as far from the last row as from the first.
-use Rattle.std.proofs.Common.{true, arith}
+use Rattle.std.proofs.Common.{true, ℕ, ◌<◌, arith}
+use Rattle.exr_chunks.specs.declared.part.Part.{Part}
+use Rattle.exr_chunks.specs.Part.{IsPart}
+use Rattle.exr_chunks.specs.Turns.{mirrored}
 use Rattle.exr_chunks.proofs.Parts.{cut, product}
 use Rattle.exr_chunks.proofs.Orders.{mirrored_within}
 use Rattle.exr_chunks.proofs.part.Part.mirrored.Goals as goal
@@ -20,31 +23,18 @@ overflow_sub-result-then-is_falling c =
     let above = (cut c.args.self.now c.args.index c.requires.part c.requires.within).above in
     omega (arith, above)
 
+-- the position of a chunk is one of the part's
+falling_within : (p : Part) (i : ℕ) → IsPart p → i < p.count → mirrored true p.across p.down i < p.count
+falling_within p i part within =
+    let all = product p part in
+    let m = mirrored_within true p.across p.down i (cut p i part within).across (omega (arith, all, within)) in
+    omega (arith, m, all)
+
 pub overflow_mul-result : goal.overflow_mul-result
-overflow_mul-result c =
-    let p = c.args.self.now in
-    let k = cut p c.args.index c.requires.part c.requires.within in
-    let all = product p c.requires.part in
-    let few = c.requires.part.few in
-    let within = c.requires.within in
-    let small = mirrored_within true p.across p.down c.args.index k.across (omega (arith, all, within)) in
-    omega (arith, small, all, few)
+overflow_mul-result c = omega (arith, falling_within c.args.self.now c.args.index c.requires.part c.requires.within, c.requires.part.few)
 
 pub overflow_add-result : goal.overflow_add-result
-overflow_add-result c =
-    let p = c.args.self.now in
-    let k = cut p c.args.index c.requires.part c.requires.within in
-    let all = product p c.requires.part in
-    let few = c.requires.part.few in
-    let within = c.requires.within in
-    let small = mirrored_within true p.across p.down c.args.index k.across (omega (arith, all, within)) in
-    omega (arith, small, all, few)
+overflow_add-result c = omega (arith, falling_within c.args.self.now c.args.index c.requires.part c.requires.within, c.requires.part.few)
 
 pub returns-then-is_falling-clause-within : goal.returns-then-is_falling-clause-within
-returns-then-is_falling-clause-within c =
-    let p = c.args.self.now in
-    let k = cut p c.args.index c.requires.part c.requires.within in
-    let all = product p c.requires.part in
-    let within = c.requires.within in
-    let small = mirrored_within true p.across p.down c.args.index k.across (omega (arith, all, within)) in
-    omega (arith, small, all)
+returns-then-is_falling-clause-within c = falling_within c.args.self.now c.args.index c.requires.part c.requires.within

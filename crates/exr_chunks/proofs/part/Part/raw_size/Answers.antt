@@ -1,11 +1,8 @@
 -- What is read is the size of the chunk.
-use Rattle.std.proofs.Common.{Vec, Global, vec_len, ◌≡◌, ◌≢◌, ◌%◌, ◌+◌, ◌*◌, ◌^◌, ◌<◌, ◌≤◌, ℕ, rules, eqb, true, false, cond, refl, sym, ap, ap₂, subst, ◌∙◌, arith, slice_index, get_or, length}
-use Rattle.std.specs.Int.{w32}
+use Rattle.std.proofs.Common.{Vec, Global, vec_len, ◌≡◌, ◌≢◌, ◌%◌, ◌+◌, ◌*◌, ◌^◌, ◌<◌, ◌≤◌, ℕ, eqb, true, false, cond, refl, sym, ap, ap₂, subst, ◌∙◌, arith, slice_index, get_or, length}
 use Rattle.std.proofs.lemmas.Nat.{mod_below}
 use Rattle.std.proofs.lemmas.Bool.Decides.{nat_tests}
 use Rattle.std.proofs.lemmas.List.{get_or_read_under}
-use Rattle.std.proofs.lemmas.Int.{to_z-of_z}
-use mir.Val.{SFits}
 use Rattle.exr_base.specs.declared.shape.Box2i.{Box2i}
 use Rattle.exr_base.specs.Shape.{width_of, height_of}
 use Rattle.exr_chunks.specs.declared.part.Part.{Part}
@@ -37,28 +34,14 @@ pixels_read p s i n a b r part is kind within region wide high =
 pub overflow_mul-result-in-Pixels : goal.overflow_mul-result-in-Pixels
 overflow_mul-result-in-Pixels c =
     let p = c.args.self.now in
-    let r = c.region-region.result in
-    let f0 : SFits w32 r.x0 = search rules in
-    let f1 : SFits w32 r.x1 = search rules in
-    let g0 : SFits w32 r.y0 = search rules in
-    let g1 : SFits w32 r.y1 = search rules in
-    let a : c.span.result ≡ width_of r = simp to_z-of_z at c.span.ensures.exact in
-    let b : c.span-in-Pixels.result ≡ height_of r = simp to_z-of_z at c.span-in-Pixels.ensures.exact in
-    let exact = pixels_read p p.sizes c.args.index c.in-Pixels.bytes c.from-columns.result c.from-rows.result r c.requires.part refl c.in-Pixels.is c.requires.within c.region-region.ensures.exact (c.from-columns.ensures ∙ a) (c.from-rows.ensures ∙ b) in
+    let exact = pixels_read p p.sizes c.args.index c.in-Pixels.bytes c.from-columns.result c.from-rows.result c.region-region.result c.requires.part refl c.in-Pixels.is c.requires.within c.region-region.ensures.exact (c.from-columns.ensures ∙ c.width.ensures.exact) (c.from-rows.ensures ∙ c.height.ensures.exact) in
     let small = at_most p c.args.index (c.in-Pixels.bytes * (c.from-columns.result * c.from-rows.result)) c.requires.part c.requires.within exact in
     omega (arith, small)
 
 pub returns-in-Pixels-clause-exact : goal.returns-in-Pixels-clause-exact
 returns-in-Pixels-clause-exact c =
     let p = c.args.self.now in
-    let r = c.region-region.result in
-    let f0 : SFits w32 r.x0 = search rules in
-    let f1 : SFits w32 r.x1 = search rules in
-    let g0 : SFits w32 r.y0 = search rules in
-    let g1 : SFits w32 r.y1 = search rules in
-    let a : c.span.result ≡ width_of r = simp to_z-of_z at c.span.ensures.exact in
-    let b : c.span-in-Pixels.result ≡ height_of r = simp to_z-of_z at c.span-in-Pixels.ensures.exact in
-    pixels_read p p.sizes c.args.index c.in-Pixels.bytes c.from-columns.result c.from-rows.result r c.requires.part refl c.in-Pixels.is c.requires.within c.region-region.ensures.exact (c.from-columns.ensures ∙ a) (c.from-rows.ensures ∙ b)
+    pixels_read p p.sizes c.args.index c.in-Pixels.bytes c.from-columns.result c.from-rows.result c.region-region.result c.requires.part refl c.in-Pixels.is c.requires.within c.region-region.ensures.exact (c.from-columns.ensures ∙ c.width.ensures.exact) (c.from-rows.ensures ∙ c.height.ensures.exact)
 
 pub returns-in-Pixels-clause-small : goal.returns-in-Pixels-clause-small
 returns-in-Pixels-clause-small c =

@@ -3,7 +3,7 @@ use Rattle.std.specs.Int.{w32}
 use Rattle.std.proofs.lemmas.Int.{to_z-of_z}
 use mir.Val.{SFits}
 use Rattle.exr_chunks.specs.Part.{header_of}
-use Rattle.exr_chunks.specs.Pixels.{IsInside}
+use Rattle.exr_base.specs.Boxes.{IsInside}
 use Rattle.exr_chunks.proofs.Pixels.{region_inside}
 use Rattle.exr_chunks.proofs.Parts.{AreEnds, cut, region_is, region_sides}
 use Rattle.exr_chunks.proofs.part.Part.region.Goals as goal

@@ -1,6 +1,0 @@
-use Rattle.std.proofs.Common.{◌≡◌, take}
-use Rattle.exr_chunks.proofs.part.copied.Given as goal
-
--- the channels so far
-abbrev pub invariant-loop-channel : goal.invariant-loop-channel
-invariant-loop-channel l = l.copies.items ≡ take l.channel-index l.channels

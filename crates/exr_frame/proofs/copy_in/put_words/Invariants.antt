@@ -1,0 +1,6 @@
+use Rattle.exr_frame.specs.Buffer.{IsCopied}
+use Rattle.exr_frame.specs.Rows.{IsOfRow, row_place, sample_byte}
+use Rattle.exr_frame.proofs.copy_in.put_words.Given as goal
+
+abbrev pub invariant-loop-i : goal.invariant-loop-i
+invariant-loop-i l = IsCopied (IsOfRow l.i 4) (row_place l.at l.stride) (sample_byte l.from 4) l.initial.into l.into

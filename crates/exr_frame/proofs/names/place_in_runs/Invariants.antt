@@ -1,7 +1,0 @@
-use Rattle.std.proofs.Common.{◌≡◌, ◌+◌, drop}
-use Rattle.std.specs.List.{position_or_len}
-use Rattle.exr_frame.specs.Judging.{slices_of_runs, has_name}
-use Rattle.exr_frame.proofs.names.place_in_runs.Given as goal
-
-abbrev pub invariant-loop-run : goal.invariant-loop-run
-invariant-loop-run l = position_or_len (has_name l.name) (slices_of_runs l.runs) ≡ l.before + position_or_len (has_name l.name) (slices_of_runs (drop l.run-index l.runs))

@@ -1,6 +1,0 @@
-use Rattle.exr_frame.specs.Put.{IsPut}
-use Rattle.exr_frame.specs.Rows.{IsOfRow, row_place, sample_byte}
-use Rattle.exr_frame.proofs.strides.put_words.Given as goal
-
-abbrev pub invariant-loop-i : goal.invariant-loop-i
-invariant-loop-i l = IsPut (IsOfRow l.i 4) (row_place l.at l.stride) (sample_byte l.from 4) l.initial.into l.into
