@@ -1,4 +1,4 @@
--- Frames that say the same are judged and matched alike, wherever their slices and runs are kept in memory.
+-- Frames that say the same are validated and matched alike, wherever their slices and runs are kept in memory.
 use Rattle.std.proofs.Common.{◌≡◌, ◌==◌, ◌+◌, ◌-◌, ◌^◌, nat_lt, ℕ, Bool, true, false, cond, not, ◌||◌, List, [], ◌∷◌, ◌++◌, length, map, Option, Some, None, Result, Ok, Err, refl, sym, ap, ◌∙◌}
 use Rattle.std.specs.List.{flat_map, list_any, position, position_or_len}
 use Rattle.std.proofs.lemmas.List.{length-map}
@@ -7,16 +7,17 @@ use Rattle.exr_base.specs.declared.shape.Box2i.{Box2i}
 use Rattle.exr_base.specs.Refusal.{◌>>=◌}
 use Rattle.exr_base.specs.Sampling.{sample_count_of}
 use Rattle.exr_judge.specs.declared.header.Header.{Header}
-use Rattle.exr_frame.specs.declared.planes.Plane.{Plane}
-use Rattle.exr_frame.specs.declared.planes.Run.{Run}
-use Rattle.exr_frame.specs.declared.planes.Slice.{Slice}
-use Rattle.exr_frame.specs.declared.spot.Spot.{Spot}
-use Rattle.exr_frame.specs.declared.fault.LayoutFault.{LayoutFault}
-use Rattle.exr_frame.specs.declared.fault.LayoutFault.TheVariants.{Empty, Huge, ZeroSampling, Overlap, ShortStride, OutOfBuffer}
-use Rattle.exr_frame.specs.declared.fault.MatchFault.TheVariants.{WindowOutside}
-use Rattle.exr_frame.specs.Judging.{Frame, is_empty_run, is_empty_plane, is_huge, is_huge_slice, is_huge_run, is_huge_plane, refused_at, names_judged, judged, slices_judged, end_of, run_judged, runs_judged, samplings_judged, plane_judged, planes_judged, frame_judged, slices_of_plane, slices_of}
-use Rattle.exr_frame.specs.Place.{spots_of_plane, spots_of}
-use Rattle.exr_frame.specs.Plan.{is_inside, slices_matched, part_matched}
+use Rattle.exr_layout.specs.declared.planes.Plane.{Plane}
+use Rattle.exr_layout.specs.declared.planes.Run.{Run}
+use Rattle.exr_layout.specs.declared.planes.Slice.{Slice}
+use Rattle.exr_layout.specs.declared.placement.Placement.{Placement}
+use Rattle.exr_layout.specs.declared.fault.LayoutFault.{LayoutFault}
+use Rattle.exr_layout.specs.declared.fault.LayoutFault.TheVariants.{Empty, Huge, ZeroSampling, Overlap, ShortStride, OutOfBuffer}
+use Rattle.exr_layout.specs.declared.fault.MatchFault.TheVariants.{WindowOutside}
+use Rattle.exr_layout.specs.Validation.{Frame, is_empty_run, is_empty_plane, is_huge, is_huge_slice, is_huge_run, is_huge_plane, refused_at, names_validated, validated, slices_validated, end_of, run_validated, runs_validated, samplings_validated, plane_validated, planes_validated, frame_validated, slices_of_plane, slices_of}
+use Rattle.exr_layout.specs.Place.{placements_of_plane, placements_of}
+use Rattle.exr_base.specs.Boxes.{is_inside}
+use Rattle.exr_layout.specs.Plan.{slices_matched, part_matched}
 use Rattle.exr_request.specs.declared.fault.RequestStop.{RequestStop}
 use Rattle.exr_request.specs.declared.fault.RequestStop.TheVariants.{Fault}
 use Rattle.exr_request.specs.declared.fault.RequestFault.TheVariants.{TooLarge}
@@ -90,77 +91,77 @@ slices_same ps qs e = same_slices ps ∙ ap plain_slices e ∙ sym (same_slices 
 
 -- ---- tests run by run, plane by plane
 
-run_same : (window : Box2i) (n ended : ℕ) (r s : Run) → plain_run r ≡ plain_run s → run_judged window n ended r ≡ run_judged window n ended s
-unfolding run_judged
+run_same : (window : Box2i) (n ended : ℕ) (r s : Run) → plain_run r ≡ plain_run s → run_validated window n ended r ≡ run_validated window n ended s
+unfolding run_validated
 run_same window n ended r s e =
-    ap (λ (x : PlainRun). slices_judged n 0 x.slices >>= λ each. judged (nat_lt x.stride each) (ShortStride (n + length x.slices - 1)) each >>= λ fits. judged (nat_lt x.at ended) (Overlap (n - 1) n) (end_of x.at x.stride (sample_count_of x.sampling window.x0 window.x1) fits)) e
+    ap (λ (x : PlainRun). slices_validated n 0 x.slices >>= λ each. validated (nat_lt x.stride each) (ShortStride (n + length x.slices - 1)) each >>= λ fits. validated (nat_lt x.at ended) (Overlap (n - 1) n) (end_of x.at x.stride (sample_count_of x.sampling window.x0 window.x1) fits)) e
 
-runs_same : (window : Box2i) (n ended : ℕ) (rs ss : List Run) → map plain_run rs ≡ map plain_run ss → runs_judged window n ended rs ≡ runs_judged window n ended ss
-unfolding runs_judged
+runs_same : (window : Box2i) (n ended : ℕ) (rs ss : List Run) → map plain_run rs ≡ map plain_run ss → runs_validated window n ended rs ≡ runs_validated window n ended ss
+unfolding runs_validated
 runs_same window n ended [] [] e = refl
 runs_same window n ended [] (s ∷ ss) e = absurd (cc)
 runs_same window n ended (r ∷ rs) [] e = absurd (cc)
 runs_same window n ended (r ∷ rs) (s ∷ ss) e =
     let h = heads_same plain_run r s rs ss e in
     let count : length r.slices.items ≡ length s.slices.items = ap (λ (x : PlainRun). length x.slices) h.0 in
-    bind_same (run_judged window n ended r) (run_judged window n ended s) (λ ends. runs_judged window (n + length r.slices.items) ends rs) (λ ends. runs_judged window (n + length s.slices.items) ends ss)
+    bind_same (run_validated window n ended r) (run_validated window n ended s) (λ ends. runs_validated window (n + length r.slices.items) ends rs) (λ ends. runs_validated window (n + length s.slices.items) ends ss)
     (run_same window n ended r s h.0)
-    (λ ends. ap (λ (k : ℕ). runs_judged window (n + k) ends rs) count ∙ runs_same window (n + length s.slices.items) ends rs ss h.1)
+    (λ ends. ap (λ (k : ℕ). runs_validated window (n + k) ends rs) count ∙ runs_same window (n + length s.slices.items) ends rs ss h.1)
 
-samplings_same : (n : ℕ) (rs ss : List Run) → map plain_run rs ≡ map plain_run ss → samplings_judged n rs ≡ samplings_judged n ss
-unfolding samplings_judged
+samplings_same : (n : ℕ) (rs ss : List Run) → map plain_run rs ≡ map plain_run ss → samplings_validated n rs ≡ samplings_validated n ss
+unfolding samplings_validated
 samplings_same n [] [] e = refl
 samplings_same n [] (s ∷ ss) e = absurd (cc)
 samplings_same n (r ∷ rs) [] e = absurd (cc)
 samplings_same n (r ∷ rs) (s ∷ ss) e =
     let h = heads_same plain_run r s rs ss e in
     let count : length r.slices.items ≡ length s.slices.items = ap (λ (x : PlainRun). length x.slices) h.0 in
-    bind_same (judged (r.sampling == 0) (ZeroSampling n) 0) (judged (s.sampling == 0) (ZeroSampling n) 0) (λ (each : ℕ). samplings_judged (n + length r.slices.items) rs) (λ (each : ℕ). samplings_judged (n + length s.slices.items) ss)
-    (ap (λ (x : PlainRun). judged (x.sampling == 0) (ZeroSampling n) 0) h.0)
-    (λ each. ap (λ (k : ℕ). samplings_judged (n + k) rs) count ∙ samplings_same (n + length s.slices.items) rs ss h.1)
+    bind_same (validated (r.sampling == 0) (ZeroSampling n) (tt {0})) (validated (s.sampling == 0) (ZeroSampling n) (tt {0})) (λ (each : Unit {0}). samplings_validated (n + length r.slices.items) rs) (λ (each : Unit {0}). samplings_validated (n + length s.slices.items) ss)
+    (ap (λ (x : PlainRun). validated (x.sampling == 0) (ZeroSampling n) (tt {0})) h.0)
+    (λ each. ap (λ (k : ℕ). samplings_validated (n + k) rs) count ∙ samplings_same (n + length s.slices.items) rs ss h.1)
 
--- a plane is judged by its own numbers, by its runs and by how many slices it has
-plane_by : Box2i → ℕ → ℕ → ℕ → PlainPlane → Result ℕ LayoutFault → Result ℕ LayoutFault → ℕ → Result ℕ LayoutFault
+-- a plane is validated by its own numbers, by its runs and by how many slices it has
+plane_by : Box2i → ℕ → ℕ → ℕ → PlainPlane → Result (Unit {0}) LayoutFault → Result ℕ LayoutFault → ℕ → Result ℕ LayoutFault
 plane_by window buffer n ended p samplings runs count = do
-  rows ← judged (p.sampling == 0) (ZeroSampling n) 0
+  rows ← validated (p.sampling == 0) (ZeroSampling n) (tt {0})
   columns ← samplings
   each ← runs
-  fits ← judged (nat_lt p.stride each) (ShortStride (n + count - 1)) each
-  begins ← judged (nat_lt p.base ended) (Overlap (n - 1) n) (end_of p.base p.stride (sample_count_of p.sampling window.y0 window.y1) fits)
-  judged (nat_lt buffer begins) (OutOfBuffer (n + count - 1)) begins
+  fits ← validated (nat_lt p.stride each) (ShortStride (n + count - 1)) each
+  begins ← validated (nat_lt p.base ended) (Overlap (n - 1) n) (end_of p.base p.stride (sample_count_of p.sampling window.y0 window.y1) fits)
+  validated (nat_lt buffer begins) (OutOfBuffer (n + count - 1)) begins
 
-plane_judged_by : (window : Box2i) (buffer n ended : ℕ) (p : Plane) → plane_judged window buffer n ended p ≡ plane_by window buffer n ended (plain_plane p) (samplings_judged n p.runs.items) (runs_judged window n 0 p.runs.items) (length (slices_of_plane p))
-unfolding plane_judged plane_by
+plane_judged_by : (window : Box2i) (buffer n ended : ℕ) (p : Plane) → plane_validated window buffer n ended p ≡ plane_by window buffer n ended (plain_plane p) (samplings_validated n p.runs.items) (runs_validated window n 0 p.runs.items) (length (slices_of_plane p))
+unfolding plane_validated plane_by
 plane_judged_by window buffer n ended p = refl
 
 count_same : (p q : Plane) → plain_plane p ≡ plain_plane q → length (slices_of_plane p) ≡ length (slices_of_plane q)
 count_same p q e =
     ap length (same_run_slices p.runs.items) ∙ ap (λ (x : PlainPlane). length (plain_run_slices x.runs)) e ∙ sym (ap length (same_run_slices q.runs.items))
 
-plane_same : (window : Box2i) (buffer n ended : ℕ) (p q : Plane) → plain_plane p ≡ plain_plane q → plane_judged window buffer n ended p ≡ plane_judged window buffer n ended q
+plane_same : (window : Box2i) (buffer n ended : ℕ) (p q : Plane) → plain_plane p ≡ plain_plane q → plane_validated window buffer n ended p ≡ plane_validated window buffer n ended q
 plane_same window buffer n ended p q e =
     let runs : map plain_run p.runs.items ≡ map plain_run q.runs.items = ap (λ (x : PlainPlane). x.runs) e in
-    let sp = samplings_judged n p.runs.items in
-    let rp = runs_judged window n 0 p.runs.items in
-    let sq = samplings_judged n q.runs.items in
-    let rq = runs_judged window n 0 q.runs.items in
+    let sp = samplings_validated n p.runs.items in
+    let rp = runs_validated window n 0 p.runs.items in
+    let sq = samplings_validated n q.runs.items in
+    let rq = runs_validated window n 0 q.runs.items in
     plane_judged_by window buffer n ended p
     ∙ ap (λ (x : PlainPlane). plane_by window buffer n ended x sp rp (length (slices_of_plane p))) e
-    ∙ ap (λ (x : Result ℕ LayoutFault). plane_by window buffer n ended (plain_plane q) x rp (length (slices_of_plane p))) (samplings_same n p.runs.items q.runs.items runs)
+    ∙ ap (λ (x : Result (Unit {0}) LayoutFault). plane_by window buffer n ended (plain_plane q) x rp (length (slices_of_plane p))) (samplings_same n p.runs.items q.runs.items runs)
     ∙ ap (λ (x : Result ℕ LayoutFault). plane_by window buffer n ended (plain_plane q) sq x (length (slices_of_plane p))) (runs_same window n 0 p.runs.items q.runs.items runs)
     ∙ ap (plane_by window buffer n ended (plain_plane q) sq rq) (count_same p q e)
     ∙ sym (plane_judged_by window buffer n ended q)
 
-planes_same : (window : Box2i) (buffer n ended : ℕ) (ps qs : List Plane) → map plain_plane ps ≡ map plain_plane qs → planes_judged window buffer n ended ps ≡ planes_judged window buffer n ended qs
-unfolding planes_judged
+planes_same : (window : Box2i) (buffer n ended : ℕ) (ps qs : List Plane) → map plain_plane ps ≡ map plain_plane qs → planes_validated window buffer n ended ps ≡ planes_validated window buffer n ended qs
+unfolding planes_validated
 planes_same window buffer n ended [] [] e = refl
 planes_same window buffer n ended [] (q ∷ qs) e = absurd (cc)
 planes_same window buffer n ended (p ∷ ps) [] e = absurd (cc)
 planes_same window buffer n ended (p ∷ ps) (q ∷ qs) e =
     let h = heads_same plain_plane p q ps qs e in
-    bind_same (plane_judged window buffer n ended p) (plane_judged window buffer n ended q) (λ ends. planes_judged window buffer (n + length (slices_of_plane p)) ends ps) (λ ends. planes_judged window buffer (n + length (slices_of_plane q)) ends qs)
+    bind_same (plane_validated window buffer n ended p) (plane_validated window buffer n ended q) (λ ends. planes_validated window buffer (n + length (slices_of_plane p)) ends ps) (λ ends. planes_validated window buffer (n + length (slices_of_plane q)) ends qs)
     (plane_same window buffer n ended p q h.0)
-    (λ ends. ap (λ (k : ℕ). planes_judged window buffer (n + k) ends ps) (count_same p q h.0) ∙ planes_same window buffer (n + length (slices_of_plane q)) ends ps qs h.1)
+    (λ ends. ap (λ (k : ℕ). planes_validated window buffer (n + k) ends ps) (count_same p q h.0) ∙ planes_same window buffer (n + length (slices_of_plane q)) ends ps qs h.1)
 
 -- ---- frames
 
@@ -174,30 +175,30 @@ frame_by : Option ℕ → Option ℕ → List Slice → Result ℕ LayoutFault �
 frame_by empty huge slices planes = do
   filled ← refused_at (λ plane. Empty plane) empty
   near ← refused_at (λ plane. Huge plane) huge
-  once ← names_judged [] slices
+  once ← names_validated [] slices
   planes
 
-frame_judged_by : (f : Frame) → frame_judged f ≡ frame_by (position is_empty_plane f.planes) (position is_huge_plane f.planes) (slices_of f.planes) (planes_judged f.window f.buffer 0 0 f.planes)
-unfolding frame_judged frame_by
+frame_judged_by : (f : Frame) → frame_validated f ≡ frame_by (position is_empty_plane f.planes) (position is_huge_plane f.planes) (slices_of f.planes) (planes_validated f.window f.buffer 0 0 f.planes)
+unfolding frame_validated frame_by
 frame_judged_by f = refl
 
-pub judged_alike : (f g : Frame) → AreAlike f g → frame_judged f ≡ frame_judged g
+pub judged_alike : (f g : Frame) → AreAlike f g → frame_validated f ≡ frame_validated g
 judged_alike f g alike =
-    let pf = planes_judged f.window f.buffer 0 0 f.planes in
+    let pf = planes_validated f.window f.buffer 0 0 f.planes in
     frame_judged_by f
     ∙ ap (λ (x : Option ℕ). frame_by x (position is_huge_plane f.planes) (slices_of f.planes) pf) (position_same plain_plane is_empty_plane empty_plane_same f.planes g.planes alike.planes)
     ∙ ap (λ (x : Option ℕ). frame_by (position is_empty_plane g.planes) x (slices_of f.planes) pf) (position_same plain_plane is_huge_plane huge_plane_same f.planes g.planes alike.planes)
     ∙ ap (λ (x : List Slice). frame_by (position is_empty_plane g.planes) (position is_huge_plane g.planes) x pf) (slices_same f.planes g.planes alike.planes)
     ∙ ap (frame_by (position is_empty_plane g.planes) (position is_huge_plane g.planes) (slices_of g.planes))
-    (ap (λ (w : Box2i). planes_judged w f.buffer 0 0 f.planes) alike.window
-    ∙ ap (λ (b : ℕ). planes_judged g.window b 0 0 f.planes) alike.buffer
+    (ap (λ (w : Box2i). planes_validated w f.buffer 0 0 f.planes) alike.window
+    ∙ ap (λ (b : ℕ). planes_validated g.window b 0 0 f.planes) alike.buffer
     ∙ planes_same g.window g.buffer 0 0 f.planes g.planes alike.planes)
     ∙ sym (frame_judged_by g)
 
 -- ---- slices with all that says where their samples stand
 
 -- the same of plain planes
-abbrev pub plain_spot : PlainPlane → PlainRun → Slice → Spot
+abbrev pub plain_spot : PlainPlane → PlainRun → Slice → Placement
 plain_spot p r s = record {
   channel = s.channel;
   kind = s.kind;
@@ -211,24 +212,24 @@ plain_spot p r s = record {
   at = s.at;
 }
 
-abbrev pub plain_spots_of_run : PlainPlane → PlainRun → List Spot
+abbrev pub plain_spots_of_run : PlainPlane → PlainRun → List Placement
 plain_spots_of_run p r = map (plain_spot p r) r.slices
 
-abbrev pub plain_spots_of_plane : PlainPlane → List Spot
+abbrev pub plain_spots_of_plane : PlainPlane → List Placement
 plain_spots_of_plane p = flat_map (plain_spots_of_run p) p.runs
 
-abbrev pub plain_spots : List PlainPlane → List Spot
+abbrev pub plain_spots : List PlainPlane → List Placement
 plain_spots planes = flat_map plain_spots_of_plane planes
 
-plane_spots : (p : Plane) → spots_of_plane p ≡ plain_spots_of_plane (plain_plane p)
+plane_spots : (p : Plane) → placements_of_plane p ≡ plain_spots_of_plane (plain_plane p)
 plane_spots p = sym (flat_map-map (plain_spots_of_run (plain_plane p)) plain_run p.runs.items)
 
-pub same_spots : (ps : List Plane) → spots_of ps ≡ plain_spots (map plain_plane ps)
+pub same_spots : (ps : List Plane) → placements_of ps ≡ plain_spots (map plain_plane ps)
 same_spots ps =
-    flat_same spots_of_plane (λ (p : Plane). plain_spots_of_plane (plain_plane p)) plane_spots ps
+    flat_same placements_of_plane (λ (p : Plane). plain_spots_of_plane (plain_plane p)) plane_spots ps
     ∙ sym (flat_map-map plain_spots_of_plane plain_plane ps)
 
-pub spots_alike : (f g : Frame) → AreAlike f g → spots_of f.planes ≡ spots_of g.planes
+pub spots_alike : (f g : Frame) → AreAlike f g → placements_of f.planes ≡ placements_of g.planes
 spots_alike f g alike = same_spots f.planes ∙ ap plain_spots alike.planes ∙ sym (same_spots g.planes)
 
 -- ---- against a part
@@ -236,10 +237,10 @@ spots_alike f g alike = same_spots f.planes ∙ ap plain_spots alike.planes ∙ 
 pub matched_alike : (h : Header) (f g : Frame) → AreAlike f g → part_matched f h ≡ part_matched g h
 unfolding part_matched
 matched_alike h f g alike =
-    ap (λ (w : Box2i). cond (is_inside w h.window) (slices_matched h.channels 0 (spots_of f.planes)) (Err WindowOutside)) alike.window
-    ∙ ap (λ (l : List Spot). cond (is_inside g.window h.window) (slices_matched h.channels 0 l) (Err WindowOutside)) (spots_alike f g alike)
+    ap (λ (w : Box2i). cond (is_inside w h.window) (slices_matched h.channels 0 (placements_of f.planes)) (Err WindowOutside)) alike.window
+    ∙ ap (λ (l : List Placement). cond (is_inside g.window h.window) (slices_matched h.channels 0 l) (Err WindowOutside)) (spots_alike f g alike)
 
--- a frame is tested by how it is judged, by its size and by how it is matched
+-- a frame is tested by how it is validated, by its size and by how it is matched
 unfoldable pub tested_by : Result ℕ LayoutFault → ℕ → Result (List (Option ℕ)) RequestStop → Result (List (Option ℕ)) RequestStop
 tested_by judgement buffer matched = do
   ends ← layout_stops judgement
@@ -252,14 +253,14 @@ through (Ok ends) true f next = refl
 through (Ok ends) false f next = refl
 through (Err fault) large f next = refl
 
-pub tested_is : (h : Header) (f : Frame) → frame_tested h f ≡ tested_by (frame_judged f) f.buffer (match_stops (part_matched f h))
+pub tested_is : (h : Header) (f : Frame) → frame_tested h f ≡ tested_by (frame_validated f) f.buffer (match_stops (part_matched f h))
 unfolding tested_by
-tested_is h f = through (frame_judged f) (nat_lt (2 ^ 30) f.buffer) f (λ layout. match_stops (part_matched layout h))
+tested_is h f = through (frame_validated f) (nat_lt (2 ^ 30) f.buffer) f (λ layout. match_stops (part_matched layout h))
 
 pub tested_alike : (h : Header) (f g : Frame) → AreAlike f g → frame_tested h f ≡ frame_tested h g
 tested_alike h f g alike =
     tested_is h f
     ∙ ap (λ (x : Result ℕ LayoutFault). tested_by x f.buffer (match_stops (part_matched f h))) (judged_alike f g alike)
-    ∙ ap (λ (b : ℕ). tested_by (frame_judged g) b (match_stops (part_matched f h))) alike.buffer
-    ∙ ap (tested_by (frame_judged g) g.buffer) (ap match_stops (matched_alike h f g alike))
+    ∙ ap (λ (b : ℕ). tested_by (frame_validated g) b (match_stops (part_matched f h))) alike.buffer
+    ∙ ap (tested_by (frame_validated g) g.buffer) (ap match_stops (matched_alike h f g alike))
     ∙ sym (tested_is h g)

@@ -1,11 +1,12 @@
 -- The planes that are made for channels make a frame: how many slices they have, and the window they lie over.
-use Rattle.std.proofs.Common.{◌≡◌, ◌+◌, ◌≤◌, ◌^◌, ℕ, ℤ, pos, negsuc, ◌+ℤ◌, ◌-ℤ◌, ◌≤ℤ◌, nat_abs, suc, All, get_or, Option, Some, None, IfSome, Bool, true, false, not, ◌&&◌, ◌||◌, IsTrue, List, [], ◌∷◌, ◌++◌, length, map, refl, sym, ap, ◌∙◌, arith}
+use Rattle.std.proofs.Common.{◌≡◌, ◌+◌, ◌≤◌, ◌^◌, ℕ, ℤ, ◌≤ℤ◌, suc, All, get_or, Option, Some, None, IfSome, true, false, not, IsTrue, List, [], ◌∷◌, ◌++◌, length, map, refl, sym, ap, ◌∙◌, arith}
 use Rattle.std.specs.Prelude.{int_lt, int_le}
 use Rattle.std.specs.List.{flat_map, position}
 use Rattle.std.proofs.lemmas.List.{append-nil, length-map}
 use Rattle.std.proofs.lemmas.List.Concat.{flat_map-append}
 use Rattle.std.proofs.lemmas.List.Elements.{All-map}
 use Rattle.std.proofs.lemmas.List.Quantifiers.{position-Some}
+use Rattle.std.proofs.lemmas.Bool.{and_parts}
 use Rattle.std.proofs.lemmas.Int.{ints}
 use Rattle.exr_base.specs.declared.channel.Channel.{Channel}
 use Rattle.exr_base.specs.declared.shape.Box2i.{Box2i}
@@ -13,15 +14,17 @@ use Rattle.exr_base.specs.Sampling.{span_of}
 use Rattle.exr_base.specs.Shape.{IsSide, IsRegion, IsSampled}
 use Rattle.exr_judge.specs.declared.header.Header.{Header}
 use Rattle.exr_judge.specs.Picture.{is_empty, IsPicture}
-use Rattle.exr_judge.proofs.Sides.{side_within}
-use Rattle.exr_words.specs.declared.order.Wanted.{Wanted}
-use Rattle.exr_words.specs.declared.order.Arrangement.{Arrangement}
-use Rattle.exr_words.specs.declared.order.Arrangement.TheVariants.{Planar, Lines, Pixels}
-use Rattle.exr_frame.specs.declared.planes.Plane.{Plane}
-use Rattle.exr_frame.specs.declared.planes.Run.{Run}
-use Rattle.exr_frame.specs.declared.planes.Slice.{Slice}
-use Rattle.exr_frame.specs.Judging.{slices_of_runs, slices_of, frame_from, IsFrame}
-use Rattle.exr_frame.specs.Plan.{no_channel, is_named, is_side_inside, is_inside}
+use Rattle.exr_base.proofs.Logic.{not_either, lt_false, le_true}
+use Rattle.exr_base.proofs.Sides.{span_is, side_within}
+use Rattle.exr_asked.specs.declared.choices.Wanted.{Wanted}
+use Rattle.exr_asked.specs.declared.choices.Arrangement.{Arrangement}
+use Rattle.exr_asked.specs.declared.choices.Arrangement.TheVariants.{Planar, Lines, Pixels}
+use Rattle.exr_layout.specs.declared.planes.Plane.{Plane}
+use Rattle.exr_layout.specs.declared.planes.Run.{Run}
+use Rattle.exr_layout.specs.declared.planes.Slice.{Slice}
+use Rattle.exr_layout.specs.Validation.{slices_of_runs, slices_of, frame_from, IsFrame}
+use Rattle.exr_base.specs.Channel.{no_channel, is_named}
+use Rattle.exr_base.specs.Boxes.{is_side_inside, is_inside}
 use Rattle.exr_request.specs.Arranged.{PlainRun, PlainPlane, plain_run, plain_plane, kind_bytes, row_bytes, plane_bytes, behind, slice_for, run_for, plane_for, planes_for}
 use Rattle.exr_request.specs.Chosen.{found, channel_wanted, channels_chosen}
 use Rattle.exr_request.specs.Request.{is_window_of}
@@ -70,38 +73,15 @@ slices_count Pixels window pad fill cs =
 
 -- ---- the window
 
-both : (a b : Bool) → IsTrue (a && b) → (a ≡ true) × (b ≡ true)
-both true true h = (refl, refl)
-both true false h = absurd (cc)
-both false b h = absurd (cc)
-
-neither : (a b : Bool) → not (a || b) ≡ true → (a ≡ false) × (b ≡ false)
-neither false false h = (refl, refl)
-neither false true h = absurd (cc)
-neither true b h = absurd (cc)
-
-lt_false : (a b : ℤ) → int_lt b a ≡ false → a ≤ℤ b
-lt_false a b h = grind (arith, ints)
-
-le_true : (a b : ℤ) → int_le a b ≡ true → a ≤ℤ b
-le_true a b h = grind (arith, ints)
-
-abs_pos : (z : ℤ) → pos 0 ≤ℤ z → pos (nat_abs z) ≡ z
-abs_pos (pos n) h = refl
-abs_pos (negsuc n) h = absurd (omega (arith, ints, h))
-
-span_is : (from to : ℤ) → from ≤ℤ to → pos (span_of from to) ≡ (to -ℤ from) +ℤ pos 1
-span_is from to h = abs_pos ((to -ℤ from) +ℤ pos 1) (omega (arith, ints, h))
-
 -- a side within another
 side_inside : (from to low high : ℤ) → int_lt to from ≡ false → is_side_inside from to low high ≡ true → IsSide low high → (from ≤ℤ to) × IsSide from to
 side_inside from to low high ordered inside side =
-    let p = both (int_le low from) (int_le to high) inside in
+    let p = and_parts (int_le low from) (int_le to high) inside in
     let o = lt_false from to ordered in
     let l = le_true low from p.0 in
     let r = le_true to high p.1 in
     let whole = span_is low high (omega (arith, ints, o, l, r)) in
-    let part = span_is from to o in
+    let part = span_is from to (omega (arith, ints, o)) in
     let few : span_of from to ≤ 2 ^ 20 = omega (arith, ints, whole, part, l, r, side.few) in
     (o, side_within from to (span_of from to) o (omega (arith, ints, side.low, l)) (omega (arith, ints, side.end_high, r)) refl few)
 
@@ -112,9 +92,9 @@ pub record IsOver (window : Box2i) : Type 0 where
 
 pub over : (h : Header) (window : Box2i) → IsPicture h → IsTrue (is_window_of h window) → IsOver window
 over h window picture within =
-    let a = both (not (is_empty window)) (is_inside window h.window) within in
-    let b = neither (int_lt window.x1 window.x0) (int_lt window.y1 window.y0) a.0 in
-    let c = both (is_side_inside window.x0 window.x1 h.window.x0 h.window.x1) (is_side_inside window.y0 window.y1 h.window.y0 h.window.y1) a.1 in
+    let a = and_parts (not (is_empty window)) (is_inside window h.window) within in
+    let b = not_either (int_lt window.x1 window.x0) (int_lt window.y1 window.y0) a.0 in
+    let c = and_parts (is_side_inside window.x0 window.x1 h.window.x0 h.window.x1) (is_side_inside window.y0 window.y1 h.window.y0 h.window.y1) a.1 in
     let x = side_inside window.x0 window.x1 h.window.x0 h.window.x1 b.0 c.0 picture.shape.within.columns in
     let y = side_inside window.y0 window.y1 h.window.y0 h.window.y1 b.1 c.1 picture.shape.within.rows in
     record { region = record { columns = x.1; rows = y.1 }; columns = x.0; rows = y.0 }

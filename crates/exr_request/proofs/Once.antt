@@ -2,10 +2,10 @@
 use Rattle.std.proofs.Common.{◌≡◌, sym, ◌∙◌, subst, inl, inr}
 use Rattle.exr_judge.specs.declared.header.Header.{Header}
 use Rattle.exr_header.specs.Head.{Head}
-use Rattle.exr_frame.specs.declared.plan.Plan.{Plan}
-use Rattle.exr_frame.specs.Judging.{Frame}
+use Rattle.exr_layout.specs.Plan.{Matching}
+use Rattle.exr_layout.specs.Validation.{Frame}
 use Rattle.exr_request.specs.declared.fault.RequestStop.{RequestStop}
-use Rattle.exr_request.specs.Demand.{Demand}
+use Rattle.exr_asked.specs.Demand.{Demand}
 use Rattle.exr_request.specs.Request.{IsArranged, IsFit, IsUnfit, IsGranted, IsRefused}
 use Rattle.exr_request.proofs.Alike.{AreAlike, tested_alike}
 
@@ -24,7 +24,7 @@ one_unfit d h a b u v =
     let y = v.tested in
     cc
 
-not_fit : (d : Demand) (h : Header) (f : Frame) (plan : Plan) (stop : RequestStop) → IsFit d h f plan → IsUnfit d h stop → ⊥
+not_fit : (d : Demand) (h : Header) (f : Frame) (plan : Matching) (stop : RequestStop) → IsFit d h f plan → IsUnfit d h stop → ⊥
 not_fit d h f plan stop fit u =
     let same = tested_alike h f u.frame (arranged_alike d h f u.frame fit.arranged u.arranged) in
     let x = fit.tested in
@@ -39,7 +39,7 @@ one_refusal head d a b (inr (part, asked, u)) (inr (other, also, v)) =
     let same : other ≡ part = cc in
     one_unfit d part a b u (subst (λ (h : Header). IsUnfit d h b) same v)
 
-pub not_both : (head : Head) (d : Demand) (f : Frame) (plan : Plan) (stop : RequestStop) → IsGranted head d f plan → IsRefused head d stop → ⊥
+pub not_both : (head : Head) (d : Demand) (f : Frame) (plan : Matching) (stop : RequestStop) → IsGranted head d f plan → IsRefused head d stop → ⊥
 not_both head d f plan stop granted (inl x) = let y = granted.asked in absurd (cc)
 not_both head d f plan stop granted (inr (part, asked, u)) =
     let also = granted.asked in
@@ -47,7 +47,7 @@ not_both head d f plan stop granted (inr (part, asked, u)) =
     not_fit d granted.part f plan stop granted.fit (subst (λ (h : Header). IsUnfit d h stop) same u)
 
 -- two frames that are granted say the same, and their slices have the same channels
-pub granted_alike : (head : Head) (d : Demand) (f g : Frame) (p q : Plan) → IsGranted head d f p → IsGranted head d g q → AreAlike f g × (p.channels.items ≡ q.channels.items)
+pub granted_alike : (head : Head) (d : Demand) (f g : Frame) (p q : Matching) → IsGranted head d f p → IsGranted head d g q → AreAlike f g × (p.channels ≡ q.channels)
 granted_alike head d f g p q a b =
     let asked = a.asked in
     let also = b.asked in

@@ -3,10 +3,10 @@ use Rattle.std.specs.Prelude.{◌≡◌, Ok, Err, ◌⊎◌}
 use Rattle.exr_base.specs.declared.refusal.Refusal.{Refusal}
 use Rattle.exr_base.specs.declared.refusal.Refusal.TheVariants as refusal
 use Rattle.exr_judge.specs.declared.header.Header.{Header}
-use Rattle.exr_frame.specs.declared.plan.Plan.{Plan}
-use Rattle.exr_frame.specs.Judging.{Frame}
+use Rattle.exr_layout.specs.Plan.{Matching}
+use Rattle.exr_layout.specs.Validation.{Frame}
 use Rattle.exr_request.specs.declared.fault.RequestStop.{RequestStop}
-use Rattle.exr_request.specs.Demand.{Demand}
+use Rattle.exr_asked.specs.Demand.{Demand}
 use Rattle.exr_request.specs.Request.{part_tested, IsFit, IsUnfit}
 
 -- the frame does not pass
@@ -15,7 +15,7 @@ IsNoFit d h (refusal.Fault stop) = IsUnfit d h stop
 IsNoFit d h refusal.NoMemory = Unit {0}
 
 -- the part passes, and the frame
-pub record IsGrantedOf (d : Demand) (h : Header) (f : Frame) (plan : Plan) : Type 0 where
+pub record IsGrantedOf (d : Demand) (h : Header) (f : Frame) (plan : Matching) : Type 0 where
   pub passes : part_tested d h ≡ Ok h
   pub fit : IsFit d h f plan
 

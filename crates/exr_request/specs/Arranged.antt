@@ -4,11 +4,11 @@ use Rattle.exr_base.specs.declared.shape.Box2i.{Box2i}
 use Rattle.exr_base.specs.declared.channel.Channel.{Channel}
 use Rattle.exr_base.specs.Channel.{bytes_of}
 use Rattle.exr_base.specs.Sampling.{sample_count_of}
-use Rattle.exr_words.specs.declared.order.Arrangement.{Arrangement}
-use Rattle.exr_words.specs.declared.order.Arrangement.TheVariants.{Planar, Lines, Pixels}
-use Rattle.exr_frame.specs.declared.planes.Slice.{Slice}
-use Rattle.exr_frame.specs.declared.planes.Run.{Run}
-use Rattle.exr_frame.specs.declared.planes.Plane.{Plane}
+use Rattle.exr_asked.specs.declared.choices.Arrangement.{Arrangement}
+use Rattle.exr_asked.specs.declared.choices.Arrangement.TheVariants.{Planar, Lines, Pixels}
+use Rattle.exr_layout.specs.declared.planes.Slice.{Slice}
+use Rattle.exr_layout.specs.declared.planes.Run.{Run}
+use Rattle.exr_layout.specs.declared.planes.Plane.{Plane}
 use Rattle.exr_request.specs.Chosen.{first_of}
 
 -- ---- runs and planes by what they say, wherever their slices and runs are kept in memory

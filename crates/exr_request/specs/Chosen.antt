@@ -2,8 +2,8 @@
 use Rattle.std.specs.Prelude.{ℕ, List, [], ◌∷◌, map, position, Option, Some, None, unwrap_or}
 use Rattle.exr_base.specs.declared.channel.Channel.{Channel}
 use Rattle.exr_base.specs.declared.channel.Kind.TheVariants.{Half}
-use Rattle.exr_words.specs.declared.order.Wanted.{Wanted}
-use Rattle.exr_frame.specs.Plan.{channel_at, is_named}
+use Rattle.exr_asked.specs.declared.choices.Wanted.{Wanted}
+use Rattle.exr_base.specs.Channel.{channel_at, is_named}
 
 -- a channel that a part lacks: halves, one at each pixel
 abbrev pub lacked : List ℕ → Channel

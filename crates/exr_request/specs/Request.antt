@@ -2,8 +2,6 @@
 use Rattle.std.specs.Prelude.{◌≡◌, ◌==◌, ◌^◌, ◌&&◌, ◌||◌, not, nat_lt, ℕ, Bool, true, false, List, map, position, slice_get, Option, Some, None, unwrap_or, Result, Ok, Err, ◌⊎◌, if◌then◌else◌}
 use Rattle.exr_base.specs.declared.shape.Box2i.{Box2i}
 use Rattle.exr_base.specs.declared.channel.Channel.{Channel}
-use Rattle.exr_base.specs.declared.method.Method.{Method}
-use Rattle.exr_base.specs.declared.method.Method.TheVariants.{No}
 use Rattle.exr_base.specs.declared.refusal.Refusal.{Refusal}
 use Rattle.exr_base.specs.declared.refusal.Refusal.TheVariants as refusal
 use Rattle.exr_base.specs.Refusal.{◌>>=◌}
@@ -11,19 +9,20 @@ use Rattle.exr_judge.specs.declared.header.Header.{Header}
 use Rattle.exr_judge.specs.Kind.{is_deep}
 use Rattle.exr_judge.specs.Picture.{is_empty}
 use Rattle.exr_header.specs.Head.{Head}
-use Rattle.exr_words.specs.declared.order.Arrangement.{Arrangement}
-use Rattle.exr_words.specs.declared.order.Arrangement.TheVariants.{Planar, Lines, Pixels}
-use Rattle.exr_frame.specs.declared.fault.LayoutFault.{LayoutFault}
-use Rattle.exr_frame.specs.declared.fault.MatchFault.{MatchFault}
-use Rattle.exr_frame.specs.declared.plan.Plan.{Plan}
-use Rattle.exr_frame.specs.Judging.{Frame, frame_judged}
-use Rattle.exr_frame.specs.Plan.{is_inside, part_matched, IsPlanOf}
+use Rattle.exr_asked.specs.declared.choices.Arrangement.{Arrangement}
+use Rattle.exr_asked.specs.declared.choices.Arrangement.TheVariants.{Planar, Lines, Pixels}
+use Rattle.exr_layout.specs.declared.fault.LayoutFault.{LayoutFault}
+use Rattle.exr_layout.specs.declared.fault.MatchFault.{MatchFault}
+use Rattle.exr_layout.specs.Plan.{Matching}
+use Rattle.exr_layout.specs.Validation.{Frame, frame_validated}
+use Rattle.exr_base.specs.Boxes.{is_inside}
+use Rattle.exr_layout.specs.Plan.{part_matched, IsPlanOf}
 use Rattle.exr_request.specs.declared.fault.RequestFault.TheVariants.{NoPart, Window, Mixed, Layout, TooLarge, Match}
 use Rattle.exr_request.specs.declared.fault.RequestStop.{RequestStop}
 use Rattle.exr_request.specs.declared.fault.RequestStop.TheVariants.{Form, Fault}
 use Rattle.exr_request.specs.Arranged.{PlainPlane, plain_plane, planes_for, end_behind}
 use Rattle.exr_request.specs.Chosen.{channels_chosen, first_of}
-use Rattle.exr_request.specs.Demand.{Demand}
+use Rattle.exr_asked.specs.Demand.{Demand}
 
 -- ---- what is asked for
 
@@ -52,14 +51,6 @@ abbrev pub part_found : Option Header → Result Header RequestStop
 part_found None = Err (Fault NoPart)
 part_found (Some h) = Ok h
 
-abbrev pub is_raw : Method → Bool
-is_raw No = true
-is_raw _ = false
-
--- a part that is neither deep nor compressed
-abbrev pub is_read : Header → Bool
-is_read h = not (is_deep h.kind) && is_raw h.method
-
 -- a window that has pixels, all of them in the data window
 abbrev pub is_window_of : Header → Box2i → Bool
 is_window_of h window = not (is_empty window) && is_inside window h.window
@@ -80,7 +71,7 @@ mixed_stops (Some slice) = Err (Fault (Mixed slice))
 
 abbrev pub part_tested : Demand → Header → Result Header RequestStop
 part_tested d h = do
-  read ← stops (not (is_read h)) Form
+  flat ← stops (is_deep h.kind) Form
   within ← stops (not (is_window_of h (window_asked d h))) (Fault Window)
   even ← mixed_stops (first_mixed d.layout (channels_asked d h))
   Ok h
@@ -102,7 +93,7 @@ match_stops (Err fault) = Err (Fault (Match fault))
 -- a layout of at most 2^30 bytes
 abbrev pub layout_tested : Frame → Result Frame RequestStop
 layout_tested f = do
-  ends ← layout_stops (frame_judged f)
+  ends ← layout_stops (frame_validated f)
   small ← stops (nat_lt (2 ^ 30) f.buffer) (Fault TooLarge)
   Ok f
 
@@ -113,9 +104,9 @@ frame_tested h f = layout_tested f >>= λ layout. match_stops (part_matched layo
 -- ---- answers
 
 -- a frame that is arranged as it is asked for passes, and has this plan
-pub record IsFit (d : Demand) (h : Header) (f : Frame) (plan : Plan) : Type 0 where
+pub record IsFit (d : Demand) (h : Header) (f : Frame) (plan : Matching) : Type 0 where
   pub arranged : IsArranged d h f
-  pub tested : frame_tested h f ≡ Ok plan.channels.items
+  pub tested : frame_tested h f ≡ Ok plan.channels
   pub planned : IsPlanOf f h.channels plan
 
 -- such a frame does not
@@ -125,7 +116,7 @@ pub record IsUnfit (d : Demand) (h : Header) (stop : RequestStop) : Type 0 where
   pub tested : frame_tested h frame ≡ Err stop
 
 -- what is asked for can be had: the part passes, and the frame
-pub record IsGranted (head : Head) (d : Demand) (f : Frame) (plan : Plan) : Type 0 where
+pub record IsGranted (head : Head) (d : Demand) (f : Frame) (plan : Matching) : Type 0 where
   pub part : Header
   pub asked : part_asked head d ≡ Ok part
   pub fit : IsFit d part f plan

@@ -1,18 +1,18 @@
-//! Planes for the samples of channels, in each of the ways to arrange them, and the bytes of their buffer.
+//! Planes for the samples of channels, in each order of samples, and the size of their buffer.
 
 ghost use Rattle.std.specs.Prelude.{◌≡◌, ◌≤◌, ◌^◌, [], ◌∷◌, length, map, All, sum_by, IfOk};
 ghost use Rattle.exr_base.specs.Shape.{IsRegion, IsSampled};
-ghost use Rattle.exr_words.specs.declared.order.Arrangement.TheVariants as arrangement;
+ghost use Rattle.exr_asked.specs.declared.choices.Arrangement.TheVariants as arrangement;
 ghost use Rattle.exr_request.specs.Arranged.{kind_bytes, row_bytes, plain_run, plain_plane, behind, slice_for, run_for, plane_for, line_plane, pixel_run, pixel_plane, planes_for, end_behind};
 
 use crate::chosen::first_samplings;
 use crate::sizes::{columns_of, kind_bytes, row_bytes, rows_of};
+use exr_asked::Arrangement;
 use exr_base::{Box2i, Channel, NoMemory};
-use exr_frame::{Plane, Run, Slice};
-use exr_words::Arrangement;
+use exr_layout::{Plane, Run, Slice};
 use std::alloc::Global;
 
-/// Planes over a window, and the bytes of their buffer.
+/// Planes over a window, and the size of their buffer in bytes.
 #[derive(Drop, Debug)]
 pub(crate) struct Arranged {
     pub(crate) planes: Vec<Plane>,
@@ -30,7 +30,7 @@ fn slice_for(channel: &Channel, at: u64, fill: u32) -> Result<Slice, NoMemory>
     })
 }
 
-/// The samples of a channel, one behind the other.
+/// A run of the samples of a channel, one after another.
 fn run_for(alloc: Global, channel: &Channel, at: u64, fill: u32) -> Result<Run, NoMemory>
     ensures { IfOk result (λ run. plain_run run ≡ run_for fill at channel.now) }
 {
@@ -43,7 +43,7 @@ fn run_for(alloc: Global, channel: &Channel, at: u64, fill: u32) -> Result<Run, 
     })
 }
 
-/// The lines of a channel, so many bytes apart.
+/// A plane of the lines of a channel, `stride` bytes apart.
 fn plane_for(
     alloc: Global,
     channel: &Channel,

@@ -1,49 +1,20 @@
-//! The channels that slices are made for: those that are wanted, each with what the part says of it, or all of the part.
+//! The channels that a buffer has slices for: those that are asked for, or all of the part.
 
 ghost use Rattle.std.specs.Prelude.{◌≡◌, ◌≤◌, List, length, map, position, option_map, All, IfOk, IfSome};
 ghost use Rattle.exr_base.specs.Shape.{IsSampled};
-ghost use Rattle.exr_frame.specs.Plan.{is_named};
 ghost use Rattle.exr_request.specs.Chosen.{channel_wanted, channels_chosen, first_of};
 ghost use Rattle.exr_request.specs.Request.{is_mixed, first_mixed};
 
-use exr_base::{Channel, Kind, Name, NoMemory};
-use exr_words::{Arrangement, Wanted};
+use exr_asked::{Arrangement, Wanted};
+use exr_base::{Channel, Kind, NoMemory, copy_channels, find_channel};
 use std::alloc::Global;
 
-fn copy_of(channel: &Channel) -> Result<Channel, NoMemory>
-    ensures { IfOk result (λ copy. copy ≡ channel.now) }
-{
-    Ok(Channel {
-        name: channel.name.clone()?,
-        kind: channel.kind,
-        linear: channel.linear,
-        xs: channel.xs,
-        ys: channel.ys,
-    })
-}
-
-fn copies_of(alloc: Global, channels: &[Channel]) -> Result<Vec<Channel>, NoMemory>
-    ensures { IfOk result (λ copies. copies.items ≡ channels.now) }
-{
-    let mut copies = Vec::new(alloc);
-    for channel in channels {
-        copies.push(copy_of(channel)?)?;
-    }
-    Ok(copies)
-}
-
-fn named(channels: &[Channel], name: &Name) -> Option<usize>
-    ensures { result ≡ position (is_named name.now) channels.now }
-{
-    channels.iter().position(|channel| channel.name == *name)
-}
-
-/// A channel that is wanted: the part's of its name, or one of halves, of the kind that is given.
+/// A channel that is asked for: the part's channel of its name, or else one of halves, with the pixel type that was given.
 fn channel_wanted(channels: &[Channel], wanted: &Wanted) -> Result<Channel, NoMemory>
     ensures { IfOk result (λ channel. channel ≡ channel_wanted channels.now wanted.now) }
 {
     let name = wanted.name.clone()?;
-    match named(channels, &wanted.name) {
+    match find_channel(channels, &wanted.name) {
         None => Ok(Channel {
             name,
             kind: wanted.kind.unwrap_or(Kind::Half),
@@ -78,7 +49,7 @@ fn all_wanted(
     Ok(chosen)
 }
 
-/// The channels of a part that are wanted, or all of them.
+/// The channels of a part that are asked for, or all of them.
 pub(crate) fn chosen(
     alloc: Global,
     channels: &[Channel],
@@ -88,7 +59,7 @@ pub(crate) fn chosen(
         ≡ channels_chosen channels.now (option_map (λ wanted. wanted.items) wanted.now)) }
 {
     match wanted {
-        None => copies_of(alloc, channels),
+        None => copy_channels(alloc, channels),
         Some(wanted) => all_wanted(alloc, channels, wanted.as_slice()),
     }
 }
@@ -103,7 +74,7 @@ fn is_mixed(layout: Arrangement, first: &Channel, channel: &Channel) -> bool
     }
 }
 
-/// The first channel whose samplings are not those of the first one, where lines or pixels are shared.
+/// The first channel whose samplings differ from the first one's, where they share lines or pixels.
 pub(crate) fn first_mixed(layout: Arrangement, channels: &[Channel]) -> Option<usize>
     ensures { result ≡ first_mixed layout channels.now }
 {

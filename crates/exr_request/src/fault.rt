@@ -1,12 +1,12 @@
-//! Why what is asked of a file cannot be had (own). Slices count from 0, in the order in which their channels are listed.
+//! Why a request is refused (own). Slices count from 0, in the order in which their channels are listed.
 
 ghost use Rattle.std.specs.Prelude.{◌≡◌};
 ghost use Rattle.exr_request.specs.Fault.{request_number_of};
 
-use exr_frame::{LayoutFault, MatchFault};
+use exr_layout::{LayoutFault, MatchFault};
 use thiserror::Error;
 
-/// What is asked of a part cannot be had: the first test that applies.
+/// Why a request is refused: the first test that applies.
 #[derive(Clone, Copy, Debug, PartialEq, Eq, Error)]
 pub enum RequestFault {
     /// The file has no such part.
@@ -15,10 +15,10 @@ pub enum RequestFault {
     /// The window is empty, or not within the data window.
     #[error("the window is empty or not within the data window")]
     Window,
-    /// A slice has another sampling than the first one, with which it is to share lines or pixels.
+    /// A slice would share lines or pixels with the first one, and has another sampling.
     #[error("slice {slice} has another sampling than the first one")]
     Mixed { slice: u32 },
-    /// The planes are no layout.
+    /// The planes are no valid layout.
     #[error("no layout: {0}")]
     Layout(LayoutFault),
     /// The buffer would have more than 2^30 bytes.
@@ -48,10 +48,10 @@ impl RequestFault {
 /// Why a request stops.
 #[derive(Clone, Copy, Debug, PartialEq, Eq, Error)]
 pub enum RequestStop {
-    /// The part is none that is read so far: it is deep, or compressed.
+    /// A kind of part that is not supported so far: it is deep.
     #[error("form")]
     Form,
-    /// What is asked of it cannot be had.
+    /// The request is refused.
     #[error("request fault: {0}")]
     Fault(RequestFault),
 }

@@ -1,4 +1,4 @@
-//! How many bytes the samples of channels fill.
+//! Sizes of the samples of channels, in bytes.
 
 ghost use Rattle.std.specs.Prelude.{◌≡◌, ◌≤◌, ◌+◌, ◌*◌, ◌^◌, length, All, sum_by};
 ghost use Rattle.exr_base.specs.Sampling.{sample_count_of};
@@ -7,7 +7,7 @@ ghost use Rattle.exr_request.specs.Arranged.{kind_bytes, row_bytes};
 
 use exr_base::{Box2i, Channel, sample_count};
 
-/// The samples of a sampling on a line of a window.
+/// Number of columns of a window that have samples.
 pub(crate) fn columns_of(window: Box2i, sampling: u32) -> u64
     requires region { IsRegion window }
     requires sampled { 1 ≤ sampling }
@@ -17,7 +17,7 @@ pub(crate) fn columns_of(window: Box2i, sampling: u32) -> u64
     u64::from(sample_count(sampling, window.x0, window.x1))
 }
 
-/// The lines of a sampling in a window.
+/// Number of lines of a window that have samples.
 pub(crate) fn rows_of(window: Box2i, sampling: u32) -> u64
     requires region { IsRegion window }
     requires sampled { 1 ≤ sampling }
@@ -27,7 +27,7 @@ pub(crate) fn rows_of(window: Box2i, sampling: u32) -> u64
     u64::from(sample_count(sampling, window.y0, window.y1))
 }
 
-/// The bytes of a sample.
+/// Size of a sample.
 pub(crate) fn kind_bytes(channel: &Channel) -> u64
     ensures exact { result ≡ kind_bytes channel.now }
     ensures small { result ≤ 4 }
@@ -35,7 +35,7 @@ pub(crate) fn kind_bytes(channel: &Channel) -> u64
     channel.kind.bytes() as u64
 }
 
-/// The bytes of a channel's samples on a line.
+/// Size of a channel's samples on a line.
 pub(crate) fn row_bytes(window: Box2i, channel: &Channel) -> u64
     requires region { IsRegion window }
     requires sampled { IsSampled channel.now }

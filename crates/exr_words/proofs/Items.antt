@@ -2,7 +2,7 @@
 use Rattle.std.proofs.Common.{◌≡◌, ◌+◌, ◌<◌, ◌≤◌, ℕ, zero, suc, true, false, nat_le, List, [], ◌∷◌, ◌++◌, length, get_or, take, Option, Some, None, refl, sym, ap, ◌∙◌, arith, add-one, option_map}
 use Rattle.std.proofs.lemmas.Bool.Decides.{nat_tests}
 use Rattle.std.proofs.lemmas.List.{take_all}
-use Rattle.exr_words.specs.declared.order.Wanted.{Wanted}
+use Rattle.exr_asked.specs.declared.choices.Wanted.{Wanted}
 use Rattle.exr_words.specs.Parts.{◌>>=◌, all_of}
 use Rattle.exr_words.specs.Channels.{items_of, wanted_of, channels_of}
 

@@ -8,22 +8,25 @@ use Rattle.std.specs.Prelude.{⊤}
 use Rattle.exr_base.specs.Refusal.{◌>>=◌, Gives}
 use Rattle.exr_base.specs.declared.refusal.Refusal.{Refusal}
 use Rattle.exr_words.specs.declared.order.Order.{Order}
-use Rattle.exr_words.specs.declared.order.Wanted.{Wanted}
+use Rattle.exr_asked.specs.declared.choices.Wanted.{Wanted}
+use Rattle.exr_asked.specs.Choices.{Choices, IsNear, AreNear, AreWithin}
 use Rattle.exr_words.specs.declared.order.WordFault.{WordFault}
 use Rattle.exr_words.specs.declared.names.Verb.{Verb}
 use Rattle.exr_words.specs.declared.names.Verb.TheVariants.{Header, Extract}
 use Rattle.exr_words.specs.declared.names.Key.{Key}
-use Rattle.exr_words.specs.declared.names.Key.TheVariants.{In, Out, Part, Window, Layout, Channels, Pad, Fill, Byte, Workers}
-use Rattle.exr_words.specs.Command.{Command, Choices, header, extract, some_names, command_in}
-use Rattle.exr_words.specs.Names.{key_of, takes}
+use Rattle.exr_words.specs.declared.names.Key.TheVariants as keys
+use Rattle.exr_words.specs.declared.names.Choice.{Choice}
+use Rattle.exr_words.specs.declared.names.Choice.TheVariants.{Part, Window, Layout, Channels, Pad, Fill, Byte, Workers}
+use Rattle.exr_words.specs.Command.{Command, header, extract, some_names, command_in}
+use Rattle.exr_words.specs.Names.{key_of, takes, repeats}
 use Rattle.exr_words.specs.Number.{number_of, number_within}
 use Rattle.exr_words.specs.Parts.{around, all_of}
 use Rattle.exr_words.specs.Window.{coordinate_of, window_of}
 use Rattle.exr_words.specs.Layout.{arrangement_of}
 use Rattle.exr_words.specs.Channels.{items_of, wanted_of, channels_of}
-use Rattle.exr_words.specs.Fields.{Fields, nothing, placed, added, put}
-use Rattle.exr_words.specs.Words.{fields_with, choices_in, command_with, or_fault_at, read_from}
-use Rattle.exr_words.specs.Limits.{IsNear, AreNear, AreWithin, IsWithin}
+use Rattle.exr_words.specs.Fields.{Fields, nothing, placed, added, chosen, put}
+use Rattle.exr_words.specs.Words.{fields_with, command_with, or_fault_at, read_from}
+use Rattle.exr_words.specs.Limits.{IsWithin}
 
 -- ---- single values
 
@@ -108,31 +111,42 @@ placed_kept P None (Some x) h = h
 placed_kept P (Some b) None h = tt
 placed_kept P (Some b) (Some x) h = tt
 
-set_kept : {A : Type 0} (set : A → Fields) (o : Option A) (more : Fields) (P : A → Type 0) → option_map set o ≡ Some more → IfSome o P → ((v : A) → P v → AreWithin (choices_in (set v))) → AreWithin (choices_in more)
+set_kept : {A : Type 0} (set : A → Choices) (o : Option A) (more : Choices) (P : A → Type 0) → option_map set o ≡ Some more → IfSome o P → ((v : A) → P v → AreWithin (set v)) → AreWithin more
 set_kept set None more P e h keep = cc
-set_kept set (Some v) more P e h keep =
-    subst (λ (m : Fields). AreWithin (choices_in m)) (same_Some (set v) more e) (keep v h)
+set_kept set (Some v) more P e h keep = subst AreWithin (same_Some (set v) more e) (keep v h)
 
-put_kept : (key : Key) (text : List ℕ) (f more : Fields) → put key text f ≡ Some more → AreWithin (choices_in f) → AreWithin (choices_in more)
-put_kept In text f more e h = set_kept (λ v. record f { inputs = v }) (added f.inputs text) more (λ _. Unit {0}) e (anything (added f.inputs text)) (λ v k. record { window = h.window; channels = h.channels; pad = h.pad; workers = h.workers })
-put_kept Out text f more e h = set_kept (λ v. record f { output = v }) (placed f.output (Some text)) more (λ _. Unit {0}) e (anything (placed f.output (Some text))) (λ v k. record { window = h.window; channels = h.channels; pad = h.pad; workers = h.workers })
-put_kept Part text f more e h = set_kept (λ v. record f { part = v }) (placed f.part (number_within 0 (2 ^ 32 - 1) text)) more (λ _. Unit {0}) e (anything (placed f.part (number_within 0 (2 ^ 32 - 1) text))) (λ v k. record { window = h.window; channels = h.channels; pad = h.pad; workers = h.workers })
-put_kept Window text f more e h = set_kept (λ v. record f { window = v }) (placed f.window (window_of text)) more (λ v. IfSome v AreNear) e (placed_kept AreNear f.window (window_of text) (window_near text)) (λ v k. record { window = k; channels = h.channels; pad = h.pad; workers = h.workers })
-put_kept Layout text f more e h = set_kept (λ v. record f { layout = v }) (placed f.layout (arrangement_of text)) more (λ _. Unit {0}) e (anything (placed f.layout (arrangement_of text))) (λ v k. record { window = h.window; channels = h.channels; pad = h.pad; workers = h.workers })
-put_kept Channels text f more e h = set_kept (λ v. record f { channels = v }) (placed f.channels (channels_of text)) more (λ v. IfSome v (λ channels. (1 ≤ length channels) × (length channels ≤ 1024))) e (placed_kept (λ channels. (1 ≤ length channels) × (length channels ≤ 1024)) f.channels (channels_of text) (channels_kept text)) (λ v k. record { window = h.window; channels = k; pad = h.pad; workers = h.workers })
-put_kept Pad text f more e h = set_kept (λ v. record f { pad = v }) (placed f.pad (number_within 0 65535 text)) more (λ v. IfSome v (λ n. n ≤ 65535)) e (placed_kept (λ n. n ≤ 65535) f.pad (number_within 0 65535 text) (most_kept (number_within 0 65535 text) 0 65535 (number_kept 0 65535 text))) (λ v k. record { window = h.window; channels = h.channels; pad = k; workers = h.workers })
-put_kept Fill text f more e h = set_kept (λ v. record f { fill = v }) (placed f.fill (number_within 0 (2 ^ 32 - 1) text)) more (λ _. Unit {0}) e (anything (placed f.fill (number_within 0 (2 ^ 32 - 1) text))) (λ v k. record { window = h.window; channels = h.channels; pad = h.pad; workers = h.workers })
-put_kept Byte text f more e h = set_kept (λ v. record f { byte = v }) (placed f.byte (number_within 0 255 text)) more (λ _. Unit {0}) e (anything (placed f.byte (number_within 0 255 text))) (λ v k. record { window = h.window; channels = h.channels; pad = h.pad; workers = h.workers })
-put_kept Workers text f more e h = set_kept (λ v. record f { workers = v }) (placed f.workers (number_within 1 16 text)) more (λ v. IfSome v (λ n. (1 ≤ n) × (n ≤ 16))) e (placed_kept (λ n. (1 ≤ n) × (n ≤ 16)) f.workers (number_within 1 16 text) (number_kept 1 16 text)) (λ v k. record { window = h.window; channels = h.channels; pad = h.pad; workers = k })
+chosen_kept : (key : Choice) (text : List ℕ) (c more : Choices) → chosen key text c ≡ Some more → AreWithin c → AreWithin more
+chosen_kept Part text c more e h = set_kept (λ v. record c { part = v }) (placed c.part (number_within 0 (2 ^ 32 - 1) text)) more (λ _. Unit {0}) e (anything (placed c.part (number_within 0 (2 ^ 32 - 1) text))) (λ v k. record { window = h.window; channels = h.channels; pad = h.pad; workers = h.workers })
+chosen_kept Window text c more e h = set_kept (λ v. record c { window = v }) (placed c.window (window_of text)) more (λ v. IfSome v AreNear) e (placed_kept AreNear c.window (window_of text) (window_near text)) (λ v k. record { window = k; channels = h.channels; pad = h.pad; workers = h.workers })
+chosen_kept Layout text c more e h = set_kept (λ v. record c { layout = v }) (placed c.layout (arrangement_of text)) more (λ _. Unit {0}) e (anything (placed c.layout (arrangement_of text))) (λ v k. record { window = h.window; channels = h.channels; pad = h.pad; workers = h.workers })
+chosen_kept Channels text c more e h = set_kept (λ v. record c { channels = v }) (placed c.channels (channels_of text)) more (λ v. IfSome v (λ channels. (1 ≤ length channels) × (length channels ≤ 1024))) e (placed_kept (λ channels. (1 ≤ length channels) × (length channels ≤ 1024)) c.channels (channels_of text) (channels_kept text)) (λ v k. record { window = h.window; channels = k; pad = h.pad; workers = h.workers })
+chosen_kept Pad text c more e h = set_kept (λ v. record c { pad = v }) (placed c.pad (number_within 0 65535 text)) more (λ v. IfSome v (λ n. n ≤ 65535)) e (placed_kept (λ n. n ≤ 65535) c.pad (number_within 0 65535 text) (most_kept (number_within 0 65535 text) 0 65535 (number_kept 0 65535 text))) (λ v k. record { window = h.window; channels = h.channels; pad = k; workers = h.workers })
+chosen_kept Fill text c more e h = set_kept (λ v. record c { fill = v }) (placed c.fill (number_within 0 (2 ^ 32 - 1) text)) more (λ _. Unit {0}) e (anything (placed c.fill (number_within 0 (2 ^ 32 - 1) text))) (λ v k. record { window = h.window; channels = h.channels; pad = h.pad; workers = h.workers })
+chosen_kept Byte text c more e h = set_kept (λ v. record c { byte = v }) (placed c.byte (number_within 0 255 text)) more (λ _. Unit {0}) e (anything (placed c.byte (number_within 0 255 text))) (λ v k. record { window = h.window; channels = h.channels; pad = h.pad; workers = h.workers })
+chosen_kept Workers text c more e h = set_kept (λ v. record c { workers = v }) (placed c.workers (number_within 1 16 text)) more (λ v. IfSome v (λ n. (1 ≤ n) × (n ≤ 16))) e (placed_kept (λ n. (1 ≤ n) × (n ≤ 16)) c.workers (number_within 1 16 text) (number_kept 1 16 text)) (λ v k. record { window = h.window; channels = h.channels; pad = h.pad; workers = k })
+
+-- a field that is none of the choices
+same_choices : {A : Type 0} (set : A → Fields) (o : Option A) (c : Choices) (more : Fields) → ((v : A) → (set v).choices ≡ c) → option_map set o ≡ Some more → more.choices ≡ c
+same_choices set None c more same e = cc
+same_choices set (Some v) c more same e = ap (λ (m : Fields). m.choices) (sym (same_Some (set v) more e)) ∙ same v
+
+with_choices : (f more : Fields) (o : Option Choices) → option_map (λ v. record f { choices = v }) o ≡ Some more → o ≡ Some more.choices
+with_choices f more None e = cc
+with_choices f more (Some c) e = ap (λ (m : Fields). Some m.choices) (same_Some (record f { choices = c }) more e)
+
+put_kept : (verb : Verb) (key : Key) (text : List ℕ) (f more : Fields) → put verb key text f ≡ Some more → AreWithin f.choices → AreWithin more.choices
+put_kept verb keys.In text f more e h = subst AreWithin (sym (same_choices (λ v. record f { inputs = v }) (added (repeats verb keys.In) f.inputs text) f.choices more (λ v. refl) e)) h
+put_kept verb keys.Out text f more e h = subst AreWithin (sym (same_choices (λ v. record f { output = v }) (placed f.output (Some text)) f.choices more (λ v. refl) e)) h
+put_kept verb (keys.Choice choice) text f more e h = chosen_kept choice text f.choices more.choices (with_choices f more (chosen choice text f.choices) e) h
 
 at_true : (b : Bool) (o : Option Fields) (more : Fields) → cond b o None ≡ Some more → o ≡ Some more
 at_true true o more e = e
 at_true false o more e = cc
 
-word_kept : (verb : Verb) (f more : Fields) (word : List ℕ) → fields_with verb f word ≡ Some more → AreWithin (choices_in f) → AreWithin (choices_in more)
+word_kept : (verb : Verb) (f more : Fields) (word : List ℕ) → fields_with verb f word ≡ Some more → AreWithin f.choices → AreWithin more.choices
 word_kept verb f more word e h =
     option_and_then_some _ (around 61 word) more e (λ parts e0 e1. option_and_then_some _ (key_of parts.0) more e1 (λ key e2 e3.
-    put_kept key parts.1 f more (at_true (takes verb key && nat_lt 0 (length parts.1)) (put key parts.1 f) more e3) h))
+    put_kept verb key parts.1 f more (at_true (takes verb key && nat_lt 0 (length parts.1)) (put verb key parts.1 f) more e3) h))
 
 -- ---- commands
 
@@ -144,10 +158,10 @@ extract_within : (o : Option (List ℕ)) (inputs : List (List ℕ)) (c : Choices
 extract_within None inputs c command e h = cc
 extract_within (Some output) inputs c command e h = subst IsWithin (same_Some (extract inputs output c) command e) h
 
-command_within : (verb : Verb) (f : Fields) (command : Command) → command_with verb f ≡ Some command → AreWithin (choices_in f) → IsWithin command
+command_within : (verb : Verb) (f : Fields) (command : Command) → command_with verb f ≡ Some command → AreWithin f.choices → IsWithin command
 command_within Header f command e h = header_within (some_names f.inputs) command e
 command_within Extract f command e h =
-    option_and_then_some _ (some_names f.inputs) command e (λ inputs e0 e1. extract_within f.output inputs (choices_in f) command e1 h)
+    option_and_then_some _ (some_names f.inputs) command e (λ inputs e0 e1. extract_within f.output inputs f.choices command e1 h)
 
 found : {A : Type 0} (place : ℕ) (o : Option A) (x : A) → or_fault_at place o ≡ Ok x → o ≡ Some x
 found place None x e = cc
@@ -157,7 +171,7 @@ went_on : (place : ℕ) (o : Option Fields) (rest : Fields → Result Command Wo
 went_on place None rest command e = cc
 went_on place (Some more) rest command e = (more, refl, e)
 
-read_within : (verb : Verb) (place : ℕ) (f : Fields) (words : List (List ℕ)) (command : Command) → read_from verb place f words ≡ Ok command → AreWithin (choices_in f) → IsWithin command
+read_within : (verb : Verb) (place : ℕ) (f : Fields) (words : List (List ℕ)) (command : Command) → read_from verb place f words ≡ Ok command → AreWithin f.choices → IsWithin command
 unfolding read_from
 read_within verb place f [] command e h = command_within verb f command (found place (command_with verb f) command e) h
 read_within verb place f (word ∷ words) command e h =

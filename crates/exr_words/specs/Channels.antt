@@ -1,10 +1,10 @@
--- The channels that are wanted, as `NAME,NAME:KIND`.
+-- The channels that are asked for, as `NAME,NAME:KIND`.
 use Rattle.std.specs.Prelude.{◌==◌, ℕ, nat_le, bytes_eq, List, codes, length, Option, Some, None, option_map, if◌then◌else◌}
 use Rattle.std.specs.List.{slice_split}
 use Rattle.exr_base.specs.declared.channel.Kind.{Kind}
 use Rattle.exr_base.specs.declared.channel.Kind.TheVariants.{Uint, Half, Float}
 use Rattle.exr_base.specs.Name.{name_of}
-use Rattle.exr_words.specs.declared.order.Wanted.{Wanted}
+use Rattle.exr_asked.specs.declared.choices.Wanted.{Wanted}
 use Rattle.exr_words.specs.Parts.{◌>>=◌, around, all_of}
 
 -- the kind of a name
@@ -14,7 +14,7 @@ kind_of name =
     if bytes_eq name (codes "half") then Some Half else (
     if bytes_eq name (codes "float") then Some Float else None))
 
--- a name alone, or one with a kind behind a colon, which has the code 58
+-- a name alone, or one with a kind after a colon, which has the code 58
 abbrev pub wanted_from : List ℕ → Option (List ℕ × List ℕ) → Option Wanted
 wanted_from item None = option_map (λ name. record { name = name; kind = None }) (name_of item)
 wanted_from item (Some parts) = do

@@ -1,21 +1,9 @@
 -- What a command line can ask for.
-use Rattle.std.specs.Prelude.{ℕ, List, [], ◌∷◌, Option, Some, None, option_map, string_bytes}
-use Rattle.exr_base.specs.declared.shape.Box2i.{Box2i}
-use Rattle.exr_words.specs.declared.order.Arrangement.{Arrangement}
-use Rattle.exr_words.specs.declared.order.Wanted.{Wanted}
+use Rattle.std.specs.Prelude.{ℕ, List, [], ◌∷◌, Option, Some, None, string_bytes}
+pub use Rattle.exr_asked.specs.Choices.{Choices}
+use Rattle.exr_asked.specs.Choices.{choices_in}
 use Rattle.exr_words.specs.declared.order.Order.{Order}
 use Rattle.exr_words.specs.declared.order.Order.TheVariants as order
-
--- what the samples of a part are extracted by; what was not given is left to the command
-pub record Choices : Type 0 where
-  pub part : Option ℕ
-  pub window : Option Box2i
-  pub layout : Option Arrangement
-  pub channels : Option (List Wanted)
-  pub pad : Option ℕ
-  pub fill : Option ℕ
-  pub byte : Option ℕ
-  pub workers : Option ℕ
 
 -- the text of a file's head; the samples of a part of a file, written into another. Files are named by texts; the first
 -- list has the inputs
@@ -36,14 +24,4 @@ some_names (name ∷ names) = Some (name ∷ names)
 -- what an order asks for
 abbrev pub command_in : Order → Command
 command_in (order.Header inputs) = header inputs
-command_in (order.Extract inputs output part window layout channels pad fill byte workers) =
-    extract inputs (string_bytes output) (record {
-      part = part;
-      window = window;
-      layout = layout;
-      channels = option_map (λ wanted. wanted.items) channels;
-      pad = pad;
-      fill = fill;
-      byte = byte;
-      workers = workers;
-    })
+command_in (order.Extract inputs output choices) = extract inputs (string_bytes output) (choices_in choices)

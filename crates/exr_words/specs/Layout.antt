@@ -1,7 +1,7 @@
--- How samples are arranged, by name.
+-- The order of samples in a buffer, by name.
 use Rattle.std.specs.Prelude.{ℕ, bytes_eq, List, codes, Option, Some, None, if◌then◌else◌}
-use Rattle.exr_words.specs.declared.order.Arrangement.{Arrangement}
-use Rattle.exr_words.specs.declared.order.Arrangement.TheVariants.{Planar, Lines, Pixels}
+use Rattle.exr_asked.specs.declared.choices.Arrangement.{Arrangement}
+use Rattle.exr_asked.specs.declared.choices.Arrangement.TheVariants.{Planar, Lines, Pixels}
 
 -- the arrangement of a name
 abbrev pub arrangement_of : List ℕ → Option Arrangement

@@ -1,5 +1,6 @@
 -- What contracts see of the fields.
 use Rattle.std.specs.Prelude.{map, string_bytes, option_map}
+use Rattle.exr_asked.specs.Choices.{choices_in}
 use Rattle.exr_words.specs.declared.fields.Fields.{Fields as FieldsInCode}
 use Rattle.exr_words.specs.Fields.{Fields}
 
@@ -7,12 +8,5 @@ abbrev pub fields_in : FieldsInCode → Fields
 fields_in f = record {
   inputs = map string_bytes f.inputs.items;
   output = option_map string_bytes f.output;
-  part = f.part;
-  window = f.window;
-  layout = f.layout;
-  channels = option_map (λ wanted. wanted.items) f.channels;
-  pad = f.pad;
-  fill = f.fill;
-  byte = f.byte;
-  workers = f.workers;
+  choices = choices_in f.choices;
 }

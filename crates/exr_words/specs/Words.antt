@@ -1,12 +1,12 @@
--- The words of a command: its name, and behind it keys with values, as in `extract in=NAME out=NAME part=NUMBER`. The
--- keys stand in any order, each once at the most.
+-- The words of a command: its name, followed by keys with values, as in `extract in=NAME out=NAME part=NUMBER`. The keys
+-- are in any order, each at most once.
 use Rattle.std.specs.Prelude.{◌+◌, ◌&&◌, ℕ, nat_lt, length, map, String, string_bytes, List, [], ◌∷◌, Option, Some, None, option_map, option_and_then, ok_or, Result, Err, if◌then◌else◌}
 use Rattle.std.specs.declared.alloc.Global.{Global}
 use Rattle.exr_base.specs.Refusal.{◌>>=◌}
 use Rattle.exr_words.specs.declared.order.WordFault.{WordFault}
 use Rattle.exr_words.specs.declared.names.Verb.{Verb}
 use Rattle.exr_words.specs.declared.names.Verb.TheVariants.{Header, Extract}
-use Rattle.exr_words.specs.Command.{Command, Choices, header, extract, some_names}
+use Rattle.exr_words.specs.Command.{Command, header, extract, some_names}
 use Rattle.exr_words.specs.Names.{verb_of, key_of, takes}
 use Rattle.exr_words.specs.Parts.{around}
 use Rattle.exr_words.specs.Fields.{Fields, nothing, put}
@@ -20,27 +20,15 @@ texts_of words = map string_bytes words
 abbrev pub fields_with : Verb → Fields → List ℕ → Option Fields
 fields_with verb f word = option_and_then
     (λ parts. option_and_then
-    (λ key. if takes verb key && nat_lt 0 (length parts.1) then put key parts.1 f else None)
+    (λ key. if takes verb key && nat_lt 0 (length parts.1) then put verb key parts.1 f else None)
     (key_of parts.0))
     (around 61 word)
-
-abbrev pub choices_in : Fields → Choices
-choices_in f = record {
-  part = f.part;
-  window = f.window;
-  layout = f.layout;
-  channels = f.channels;
-  pad = f.pad;
-  fill = f.fill;
-  byte = f.byte;
-  workers = f.workers;
-}
 
 -- what a command asks for with its fields, where it has all that it needs
 abbrev pub command_with : Verb → Fields → Option Command
 command_with Header f = option_map header (some_names f.inputs)
 command_with Extract f = option_and_then
-    (λ inputs. option_map (λ output. extract inputs output (choices_in f)) f.output)
+    (λ inputs. option_map (λ output. extract inputs output f.choices) f.output)
     (some_names f.inputs)
 
 -- the fault at a place
@@ -50,8 +38,8 @@ fault_at place = Err (record { position = place })
 abbrev pub or_fault_at : {A : Type 0} → ℕ → Option A → Result A WordFault
 or_fault_at place found = ok_or found (record { position = place })
 
--- the words from a place on: what they ask for, or the place of the first that is not allowed; where a needed key is
--- missing the place is behind the last word
+-- the words from a position on: what they ask for, or the position of the first that is invalid; where a required key is
+-- missing the position is that after the last word
 unfoldable pub read_from : Verb → ℕ → Fields → List (List ℕ) → Result Command WordFault
 read_from verb place f [] = or_fault_at place (command_with verb f)
 read_from verb place f (word ∷ words) =

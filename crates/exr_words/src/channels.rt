@@ -1,16 +1,16 @@
-//! The channels that are wanted, as `NAME,NAME:KIND` (own).
+//! The channels that are asked for, as `NAME,NAME:KIND` (own).
 
 ghost use Rattle.std.specs.Prelude.{◌≡◌, IfOk, option_map};
 ghost use Rattle.exr_words.specs.Channels.{kind_of, wanted_of, channels_of};
 
-use crate::order::Wanted;
+use exr_asked::Wanted;
 use exr_base::{Kind, Name, NoMemory};
 use std::alloc::Global;
 
 /// The most channels that can be named.
 const MOST_CHANNELS: usize = 1024;
 
-/// The channels that a text names, or None where it is no list of them.
+/// Parses a list of channels; `None` if it is malformed.
 pub(crate) fn channels(alloc: Global, text: &str) -> Result<Option<Vec<Wanted>>, NoMemory>
     ensures { IfOk result (λ found. option_map (λ wanted. wanted.items) found ≡ channels_of text.now) }
 {
@@ -27,7 +27,7 @@ pub(crate) fn channels(alloc: Global, text: &str) -> Result<Option<Vec<Wanted>>,
     Ok(Some(channels))
 }
 
-/// A channel by its name alone, or by its name and kind.
+/// Parses a channel: its name, or its name and kind.
 fn wanted(item: &str) -> Option<Wanted>
     ensures { result ≡ wanted_of item.now }
 {
@@ -46,7 +46,7 @@ fn wanted(item: &str) -> Option<Wanted>
     }
 }
 
-/// The kind of a name.
+/// The pixel type with a name.
 fn kind_of(name: &str) -> Option<Kind>
     ensures { result ≡ kind_of name.now }
 {

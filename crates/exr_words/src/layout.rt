@@ -1,11 +1,11 @@
-//! How samples are arranged, by name (own).
+//! The order of samples in a buffer, by name (own).
 
 ghost use Rattle.std.specs.Prelude.{◌≡◌};
 ghost use Rattle.exr_words.specs.Layout.{arrangement_of};
 
-use crate::order::Arrangement;
+use exr_asked::Arrangement;
 
-/// The arrangement of a name.
+/// The arrangement with a name.
 pub(crate) fn arrangement(name: &str) -> Option<Arrangement>
     ensures { result ≡ arrangement_of name.now }
 {

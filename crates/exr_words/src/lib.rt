@@ -1,7 +1,8 @@
-//! The words of the command line: what they ask for, or the first that is not allowed.
+//! The words of the command line: what they ask for, or the first that is invalid.
 #![tactic(auto)]
 
 mod channels;
+mod choices;
 mod fields;
 mod layout;
 mod names;
@@ -10,8 +11,6 @@ mod order;
 mod window;
 mod words;
 
-pub use order::{Arrangement, Inputs, Order, Wanted, WordFault};
+pub use exr_asked::{Arrangement, Choices, Wanted};
+pub use order::{Inputs, Order, WordFault};
 pub use words::read_words;
-
-#[cfg(test)]
-mod tests;

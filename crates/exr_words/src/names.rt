@@ -1,20 +1,26 @@
-//! The commands and the keys by their names, and which command takes which key (own).
+//! The commands and the keys by their names, and which command takes which key, and how often (own).
 
 ghost use Rattle.std.specs.Prelude.{◌≡◌};
-ghost use Rattle.exr_words.specs.Names.{verb_of, key_of, takes};
+ghost use Rattle.exr_words.specs.Names.{verb_of, key_of, choice_of, takes, repeats};
 
-/// What the first word names.
+/// The commands.
 #[derive(Clone, Copy)]
 pub(crate) enum Verb {
     Header,
     Extract,
 }
 
-/// What stands before the `=` of each other word.
+/// The key of each other word, which precedes the `=`.
 #[derive(Clone, Copy)]
 pub(crate) enum Key {
     In,
     Out,
+    Choice(Choice),
+}
+
+/// The keys that choose samples.
+#[derive(Clone, Copy)]
+pub(crate) enum Choice {
     Part,
     Window,
     Layout,
@@ -25,7 +31,7 @@ pub(crate) enum Key {
     Workers,
 }
 
-/// The command of a name.
+/// The command with a name.
 pub(crate) fn verb_of(name: &str) -> Option<Verb>
     ensures { result ≡ verb_of name.now }
 {
@@ -35,7 +41,7 @@ pub(crate) fn verb_of(name: &str) -> Option<Verb>
     (name == "extract").then_some(Verb::Extract)
 }
 
-/// The key of a name.
+/// The key with a name.
 pub(crate) fn key_of(name: &str) -> Option<Key>
     ensures { result ≡ key_of name.now }
 {
@@ -45,28 +51,35 @@ pub(crate) fn key_of(name: &str) -> Option<Key>
     if name == "out" {
         return Some(Key::Out);
     }
+    Some(Key::Choice(choice_of(name)?))
+}
+
+/// The key with a name that chooses samples.
+fn choice_of(name: &str) -> Option<Choice>
+    ensures { result ≡ choice_of name.now }
+{
     if name == "part" {
-        return Some(Key::Part);
+        return Some(Choice::Part);
     }
     if name == "window" {
-        return Some(Key::Window);
+        return Some(Choice::Window);
     }
     if name == "layout" {
-        return Some(Key::Layout);
+        return Some(Choice::Layout);
     }
     if name == "channels" {
-        return Some(Key::Channels);
+        return Some(Choice::Channels);
     }
     if name == "pad" {
-        return Some(Key::Pad);
+        return Some(Choice::Pad);
     }
     if name == "fill" {
-        return Some(Key::Fill);
+        return Some(Choice::Fill);
     }
     if name == "byte" {
-        return Some(Key::Byte);
+        return Some(Choice::Byte);
     }
-    (name == "workers").then_some(Key::Workers)
+    (name == "workers").then_some(Choice::Workers)
 }
 
 /// Whether a command takes a key.
@@ -76,5 +89,14 @@ pub(crate) fn takes(verb: Verb, key: Key) -> bool
     match verb {
         Verb::Header => matches!(key, Key::In),
         Verb::Extract => true,
+    }
+}
+
+/// Whether a command may have a key more than once.
+pub(crate) fn repeats(verb: Verb, key: Key) -> bool
+    ensures { result ≡ repeats verb key }
+{
+    match (verb, key) {
+        (Verb::Header | Verb::Extract, _) => false,
     }
 }

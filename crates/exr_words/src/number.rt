@@ -3,10 +3,10 @@
 ghost use Rattle.std.specs.Prelude.{◌≡◌, ◌^◌, ◌<◌, IfSome};
 ghost use Rattle.exr_words.specs.Number.{number_of, number_within};
 
-/// The most digits of a number. They can write more than 64 bits hold.
+/// The most digits of a number, which may exceed 64 bits.
 const MOST_DIGITS: usize = 20;
 
-/// The number that 1 to 20 digits write.
+/// Parses a number of 1 to 20 digits.
 fn number(text: &[u8]) -> Option<u128>
     ensures exact { result ≡ number_of text.now }
     ensures small { IfSome result (λ n. n < 10 ^ 20) }
@@ -24,7 +24,7 @@ fn number(text: &[u8]) -> Option<u128>
     Some(sum)
 }
 
-/// The number that 1 to 20 digits write, from `least` to `most`.
+/// Parses a number of 1 to 20 digits from `least` to `most`.
 pub(crate) fn number_within(text: &[u8], least: u32, most: u32) -> Option<u32>
     ensures { result ≡ number_within least most text.now }
 {
@@ -35,7 +35,7 @@ pub(crate) fn number_within(text: &[u8], least: u32, most: u32) -> Option<u32>
     Some(number as u32)
 }
 
-/// The number of a byte.
+/// Parses a number up to 255.
 pub(crate) fn byte(text: &[u8]) -> Option<u8>
     ensures { result ≡ number_within 0 255 text.now }
 {

@@ -9,7 +9,7 @@ use exr_base::Box2i;
 /// The greatest coordinate; the least is as far below zero.
 const FARTHEST: u32 = 1 << 30;
 
-/// The window that four numbers name.
+/// Parses a window: four coordinates.
 pub(crate) fn window(text: &str) -> Option<Box2i>
     ensures { result ≡ window_of text.now }
 {
@@ -24,7 +24,7 @@ pub(crate) fn window(text: &str) -> Option<Box2i>
     })
 }
 
-/// The number that digits write, negative behind a `-`.
+/// Parses a coordinate: digits, after a `-` where it is negative.
 fn coordinate(text: &[u8]) -> Option<i32>
     ensures { result ≡ coordinate_of text.now }
 {

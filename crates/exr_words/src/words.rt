@@ -1,4 +1,4 @@
-//! The words of a command, read from left to right: the command, and behind it its keys with their values (own).
+//! Parsing the words of a command line from left to right: the command, followed by its keys with their values (own).
 
 ghost use Rattle.std.specs.Prelude.{◌≡◌, ◌+◌, ◌^◌, ◌<◌, IfOk, length, Some, None, option_map, if◌then◌else◌};
 ghost use Rattle.exr_base.specs.Refusal.{Gives};
@@ -14,14 +14,14 @@ use crate::order::{Inputs, Order, WordFault};
 use exr_base::{NoMemory, Refusal};
 use std::alloc::Global;
 
-/// What the words ask for, or the position of the first that is not allowed.
+/// Parses the words of a command line; the fault is the position of the first invalid word.
 ///
 /// The first word is the command, each other one a key, `=` and a value that is not empty: `header in=NAME`, or
 /// `extract in=NAME out=NAME`, which may have the keys `part=NUMBER` below 2^32, `window=X0,Y0,X1,Y1` of numbers up to
 /// 2^30 that may have a `-`, `layout=planar|lines|pixels`, `channels=NAME,NAME:uint|half|float` of 1 to 1,024 names,
 /// `pad=NUMBER` up to 65,535, `fill=NUMBER` below 2^32, `byte=NUMBER` up to 255 and `workers=NUMBER` from 1 to 16. The
-/// keys stand in any order, each once at the most. A number has 1 to 20 digits; the name of a channel has 1 to 255 bytes,
-/// none of them a comma, a colon or zero.
+/// keys are in any order, each at most once. A number has 1 to 20 digits; the name of a channel has 1 to 255 bytes, none of
+/// them a comma, a colon or zero.
 pub fn read_words(alloc: Global, words: &[String]) -> Result<Order, Refusal<WordFault>>
     requires { length words.now < 2 ^ 32 }
     ensures exact { Gives command_in result (command_of (texts_of words.now)) }
@@ -36,7 +36,7 @@ pub fn read_words(alloc: Global, words: &[String]) -> Result<Order, Refusal<Word
     read_keys(alloc, verb, keys)
 }
 
-/// What the command asks for with the words behind it. The command is word 0.
+/// Parses the words that follow a command, which is word 0.
 fn read_keys(alloc: Global, verb: Verb, keys: &[String]) -> Result<Order, Refusal<WordFault>>
     requires { length keys.now + 1 < 2 ^ 32 }
     ensures { Gives command_in result (read_from verb 1 nothing (texts_of keys.now)) }
@@ -50,7 +50,7 @@ fn read_keys(alloc: Global, verb: Verb, keys: &[String]) -> Result<Order, Refusa
     finished(verb, fields, position)
 }
 
-/// Puts the value of the word at a position into its field.
+/// Parses the word at a position.
 fn read_word(
     alloc: Global,
     verb: Verb,
@@ -68,7 +68,7 @@ fn read_word(
     }
 }
 
-/// Puts a word's value into its field. False where the word is not allowed.
+/// Puts the value of a word into its field. False where the word is invalid.
 fn read(alloc: Global, verb: Verb, fields: &mut Fields, word: &str) -> Result<bool, NoMemory>
     ensures { IfOk result (λ done. fields_with verb (fields_in fields.old) word.now
         ≡ (if done then Some (fields_in fields.new) else None)) }
@@ -82,18 +82,17 @@ fn read(alloc: Global, verb: Verb, fields: &mut Fields, word: &str) -> Result<bo
     if !takes(verb, key) || value.is_empty() {
         return Ok(false);
     }
-    fields.put(alloc, key, value)
+    fields.put(alloc, verb, key, value)
 }
 
-/// What the command asks for with all its words; where a needed key is missing the fault is at the position behind the
-/// last.
+/// What the command asks for; where a required key is missing the fault is at the position after the last word.
 fn finished(verb: Verb, fields: Fields, position: u32) -> Result<Order, Refusal<WordFault>>
     ensures { Gives command_in result (or_fault_at position (command_with verb (fields_in fields))) }
 {
     order(verb, fields).ok_or(Refusal::Fault(WordFault { position }))
 }
 
-/// What the command asks for with its fields, where it has all that it needs.
+/// What the command asks for, where it has all that it requires.
 fn order(verb: Verb, fields: Fields) -> Option<Order>
     ensures { option_map command_in result ≡ command_with verb (fields_in fields) }
 {
@@ -103,14 +102,7 @@ fn order(verb: Verb, fields: Fields) -> Option<Order>
         Verb::Extract => Order::Extract {
             inputs,
             output: fields.output?,
-            part: fields.part,
-            window: fields.window,
-            layout: fields.layout,
-            channels: fields.channels,
-            pad: fields.pad,
-            fill: fields.fill,
-            byte: fields.byte,
-            workers: fields.workers,
+            choices: fields.choices,
         },
     })
 }

@@ -1,7 +1,7 @@
 use Rattle.std.proofs.Common.{subst, sym, All, List}
 use Rattle.exr_base.specs.declared.channel.Channel.{Channel}
 use Rattle.exr_base.specs.Shape.{IsSampled}
-use Rattle.exr_request.specs.Demand.{demand_of}
+use Rattle.exr_asked.specs.Demand.{demand_of}
 use Rattle.exr_request.proofs.Fits.{over, chosen_sampled, chosen_few, framed}
 use Rattle.exr_request.proofs.answer.framed.Goals as goal
 

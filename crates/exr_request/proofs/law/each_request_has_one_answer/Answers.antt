@@ -1,4 +1,4 @@
-use Rattle.exr_request.specs.Demand.{demand_of}
+use Rattle.exr_asked.specs.Demand.{demand_of}
 use Rattle.exr_request.proofs.Once.{one_refusal, not_both}
 use Rattle.exr_request.proofs.law.each_request_has_one_answer.Goals as goal
 

@@ -1,5 +1,5 @@
 use Rattle.std.proofs.Common.{rules}
-use Rattle.exr_frame.proofs.Counted.{count_small}
+use Rattle.exr_layout.proofs.Counted.{count_small}
 use Rattle.exr_request.proofs.sizes.rows_of.Goals as goal
 
 pub returns-clause-small : goal.returns-clause-small
