@@ -1,4 +1,5 @@
-pub mod Same
-pub mod Meeting
+pub mod Contents
 pub mod Filling
 pub mod InRounds
+pub mod Meeting
+pub mod Same

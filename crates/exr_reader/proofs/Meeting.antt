@@ -9,7 +9,8 @@ use Rattle.exr_base.specs.declared.shape.Box2i.{Box2i}
 use Rattle.exr_chunks.specs.Heads.{Header, IsPicture, chunk_count_of}
 use Rattle.exr_chunks.specs.Part.{without_attributes}
 use Rattle.exr_chunks.specs.Region.{header_at, region_of}
-use Rattle.exr_chunks.specs.Pixels.{IsWithin, chunk_with}
+use Rattle.exr_base.specs.Boxes.{IsWithin}
+use Rattle.exr_chunks.specs.Pixels.{chunk_with}
 use Rattle.exr_chunks.specs.Window.{sides_meet, boxes_meet, meeting_among, chunks_of_window}
 use Rattle.exr_chunks.proofs.Pixels.{one_chunk}
 use Rattle.exr_stream.proofs.Bare.{bare_at}
@@ -120,24 +121,6 @@ window_listed g hs part w chunks same is =
 
 pub window_chunks : (h : Header) (w : Box2i) (chunks : List ℕ) → chunks ≡ chunks_of_window h w → AreChunks h chunks
 window_chunks h w chunks is = subst (AreChunks h) (sym is) (λ r there. listed_below h w (chunk_count_of h) r there)
-
-listed_few : (h : Header) (w : Box2i) (n : ℕ) → length (meeting_among h w n) ≤ n
-unfolding meeting_among
-listed_few h w zero = omega arith
-listed_few h w (suc n) =
-    let l = meeting_among h w n in
-    let low = listed_few h w n in
-    let P : Bool → Type 0 = λ b. boxes_meet (region_of h n) w ≡ b → length (meeting_among h w (suc n)) ≤ suc n in
-    (elim (boxes_meet (region_of h n) w) as P [
-      | true ↦ λ is. let size = ap length (more h w n true is) ∙ length_push l n in omega (arith, size, low)
-      | false ↦ λ is. let size = ap length (kept h w n is) in omega (arith, size, low)
-    ]) refl
-
-pub window_few : (h : Header) (w : Box2i) (chunks : List ℕ) (count : ℕ) → chunks ≡ chunks_of_window h w → count ≡ chunk_count_of h → count < 2 ^ 32 → length chunks < 2 ^ 32
-window_few h w chunks count is all small =
-    let size = ap length is in
-    let low = listed_few h w (chunk_count_of h) in
-    omega (arith, size, low, all, small)
 
 -- what holds of an answer
 pub if_ok : {A E : Type 0} (r : Result A E) (P Q : A → Type 0) → ((x : A) → P x → Q x) → IfOk r P → IfOk r Q

@@ -1,15 +1,14 @@
 -- A stream of the same file.
 use Rattle.std.proofs.Common.{◌≡◌, ℕ, IsTrue, refl, ap, ◌∙◌}
 use Rattle.exr_outside.specs.Source.{SourceMeaning}
-use Rattle.exr_stream.specs.Chunk.{chunk_of}
-use Rattle.exr_stream.specs.Stream.{StreamView, IsSameStream}
+use Rattle.exr_stream.specs.Stream.{StreamView, file_of, IsSameStream}
 
-pub chunk_same : {S : Type 0} (means : SourceMeaning S) (old new : StreamView S) (part n : ℕ) → IsSameStream means old new → IsTrue means.tells
-    → chunk_of (means.content new.source) new.head new.head_bytes part n ≡ chunk_of (means.content old.source) old.head old.head_bytes part n
-chunk_same means old new part n same told =
-    ap (λ file. chunk_of file new.head new.head_bytes part n) (same.source.content told)
-    ∙ ap (λ head. chunk_of (means.content old.source) head new.head_bytes part n) same.head
-    ∙ ap (λ bytes. chunk_of (means.content old.source) old.head bytes part n) same.head_bytes
+pub file_same : {S : Type 0} (means : SourceMeaning S) (old new : StreamView S) → IsSameStream means old new → IsTrue means.tells → file_of means new ≡ file_of means old
+file_same means old new same told =
+    let content = same.source.content told in
+    let head = same.head in
+    let head_bytes = same.head_bytes in
+    cc
 
 -- a stream's file is its own
 pub same_self : {S : Type 0} (means : SourceMeaning S) (s : StreamView S) → IsSameStream means s s

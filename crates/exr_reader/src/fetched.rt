@@ -1,33 +1,62 @@
-//! The raw data of a chunk of a part without compression.
+//! The raw content of a chunk of a part that is not deep.
 
-ghost use Rattle.std.specs.Prelude.{◌≡◌, ◌≤◌, ◌<◌, IsTrue, IfOk, IfErr, length, Ok, Err};
-ghost use Rattle.exr_base.specs.Shape.{raw_size_of};
+ghost use Rattle.std.specs.Prelude.{◌≡◌, ◌≤◌, ◌<◌, ◌^◌, false, IsTrue, IfOk, IfErr, length, Ok, Err};
+ghost use Rattle.exr_base.specs.declared.refusal.Refusal.TheVariants as refused;
+ghost use Rattle.exr_base.specs.Shape.{IsShape, raw_size_of};
 ghost use Rattle.exr_block.specs.Body.{data_of};
+ghost use Rattle.exr_block.specs.Content.{raw_of_body};
+ghost use Rattle.exr_block.specs.Sizes.{sizes_fit};
 ghost use Rattle.exr_outside.specs.Count.{Rose};
-ghost use Rattle.exr_chunks.specs.Heads.{chunk_count_of};
+ghost use Rattle.exr_chunks.specs.Heads.{is_deep, chunk_count_of};
 ghost use Rattle.exr_chunks.specs.Region.{header_at, region_of};
-ghost use Rattle.exr_stream.specs.Chunk.{chunk_of};
-ghost use Rattle.exr_stream.specs.Stream.{IsSameStream};
-ghost use Rattle.exr_reader.specs.Window.{is_flat};
+ghost use Rattle.exr_stream.specs.declared.fault.FetchFault.TheVariants as fetch;
+ghost use Rattle.exr_stream.specs.Stream.{file_of, IsSameStream};
+ghost use Rattle.exr_reader.specs.Sample.{raw_of};
 ghost use Rattle.exr_reader.specs.Reading.{HasCause};
 
 use crate::cause::ReadCause;
-use exr_base::Refusal;
-use exr_block::Body;
+use exr_base::{Method, Refusal, Shape};
+use exr_block::{Block, Body, unpack_block};
 use exr_outside::{Source, World};
 use exr_stream::{FetchFault, Stream};
 use std::alloc::Global;
 
-/// The bytes of a body.
-fn bytes_of(body: Body) -> Vec<u8>
-    ensures { result.items ≡ data_of body }
+/// The raw content of the stored data of a chunk.
+fn unpacked(
+    alloc: Global,
+    method: Method,
+    shape: &Shape<'_>,
+    index: u32,
+    body: Body,
+) -> Result<Vec<u8>, ReadCause>
+    requires shape { IsShape shape.now.channels.now shape.now.region }
+    requires fits { IsTrue (sizes_fit method shape.now.channels.now shape.now.region body) }
+    requires small { raw_size_of shape.now.channels.now shape.now.region ≤ 2 ^ 26 }
+    ensures raw { IfOk result (λ raw. raw_of_body method shape.now.channels.now shape.now.region (data_of body) ≡ Ok raw.items) }
+    ensures size { IfOk result (λ raw. length raw.items ≡ raw_size_of shape.now.channels.now shape.now.region) }
+    ensures cause { IfErr result (λ cause. HasCause cause (λ i fault. (i ≡ index)
+        × (raw_of_body method shape.now.channels.now shape.now.region (data_of body) ≡ Err fault)) ⊥) }
 {
-    match body {
-        Body::Flat(bytes) => bytes,
+    match unpack_block(alloc, method, shape, body) {
+        Ok(Block::Flat(raw)) => Ok(raw),
+        Err(Refusal::Fault(fault)) => Err(ReadCause::Chunk { index, fault }),
+        Err(Refusal::NoMemory) => Err(ReadCause::NoMemory),
     }
 }
 
-/// The raw data of a chunk of a part that is not deep and not compressed.
+/// Why a chunk could not be read that could not be fetched.
+fn cause_of(index: u32, refusal: Refusal<FetchFault>) -> ReadCause
+    ensures { HasCause result (λ i fault. (i ≡ index) × (refusal ≡ refused.Fault (fetch.Chunk fault)))
+        (refusal ≡ refused.Fault fetch.Read) }
+{
+    match refusal {
+        Refusal::Fault(FetchFault::Read) => ReadCause::Read,
+        Refusal::Fault(FetchFault::Chunk(fault)) => ReadCause::Chunk { index, fault },
+        Refusal::NoMemory => ReadCause::NoMemory,
+    }
+}
+
+/// The raw content of a chunk.
 pub(crate) fn raw_data<W: World, S: Source>(
     alloc: Global,
     stream: &mut Stream<W, S>,
@@ -36,21 +65,22 @@ pub(crate) fn raw_data<W: World, S: Source>(
 ) -> Result<Vec<u8>, ReadCause>
     requires part { part < length stream.old.head.parts }
     requires index { index < chunk_count_of (header_at stream.old.head.parts part) }
-    requires flat { IsTrue (is_flat (header_at stream.old.head.parts part)) }
-    ensures bytes { IsTrue S.means.tells → IfOk result (λ bytes.
-        chunk_of (S.means.content stream.old.source) stream.old.head stream.old.head_bytes part index ≡ Ok bytes.items) }
-    ensures size { IfOk result (λ bytes. length bytes.items ≡ raw_size_of (header_at stream.old.head.parts part).channels
+    requires flat { is_deep (header_at stream.old.head.parts part).kind ≡ false }
+    ensures bytes { IsTrue S.means.tells → IfOk result (λ raw. raw_of (file_of S.means stream.old) part index ≡ Ok raw.items) }
+    ensures size { IfOk result (λ raw. length raw.items ≡ raw_size_of (header_at stream.old.head.parts part).channels
         (region_of (header_at stream.old.head.parts part) index)) }
     ensures same { IsSameStream S.means stream.old stream.new }
     ensures later { S.means.faults stream.old.source ≤ S.means.faults stream.new.source }
     ensures cause { IfErr result (λ cause. HasCause cause (λ i fault. (i ≡ index) × (IsTrue S.means.tells
-        → chunk_of (S.means.content stream.old.source) stream.old.head stream.old.head_bytes part index ≡ Err fault))
+        → raw_of (file_of S.means stream.old) part index ≡ Err fault))
         (Rose (S.means.faults stream.old.source) (S.means.faults stream.new.source))) }
 {
+    let method = stream.header(part).method();
     match stream.fetch(alloc, part, index) {
-        Ok(body) => Ok(bytes_of(body)),
-        Err(Refusal::Fault(FetchFault::Read)) => Err(ReadCause::Read),
-        Err(Refusal::Fault(FetchFault::Chunk(fault))) => Err(ReadCause::Chunk { index, fault }),
-        Err(Refusal::NoMemory) => Err(ReadCause::NoMemory),
+        Ok(body) => {
+            let shape = stream.shape(part, index);
+            unpacked(alloc, method, &shape, index, body)
+        }
+        Err(refusal) => Err(cause_of(index, refusal)),
     }
 }

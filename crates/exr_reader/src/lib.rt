@@ -3,14 +3,13 @@
 
 mod cause;
 mod fetched;
-mod flat;
+mod jobs;
 mod rounds;
-#[cfg(test)]
-mod tests;
+mod target;
 mod window;
 mod work;
 
 pub use cause::ReadCause;
-pub use flat::is_flat;
-pub use window::{read_first, read_window};
+pub use target::Target;
+pub use window::{read_chunks, read_first, read_window};
 pub use work::{ReadStop, Work};

@@ -1,4 +1,5 @@
 pub mod Bare
-pub mod Whole
 pub mod Entries
 pub mod Filled
+pub mod Shapes
+pub mod Whole

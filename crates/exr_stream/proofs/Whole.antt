@@ -1,5 +1,5 @@
 -- What is read of a chunk is what the whole file has of it.
-use Rattle.std.proofs.Common.{◌≡◌, ℕ, ◌+◌, ◌-◌, ◌*◌, ◌<◌, ◌≤◌, ◌⊎◌, inl, inr, min, bytes_eq, List, length, take, drop, Ok, Err, if◌then◌else◌, Bool, true, false, refl, sym, ap, ◌∙◌, arith}
+use Rattle.std.proofs.Common.{◌≡◌, ℕ, ◌+◌, ◌-◌, ◌*◌, ◌<◌, ◌≤◌, ◌⊎◌, inl, inr, min, bytes_eq, List, length, take, drop, Result, Ok, Err, if◌then◌else◌, Bool, true, false, refl, sym, ap, ◌∙◌, arith}
 use Rattle.std.proofs.lemmas.Bool.{le-leb, lt-leb, leb-true, eqb-true, cases_lt}
 use Rattle.std.proofs.lemmas.List.{take-take, take_min, drop-take, drop-drop, length-take, length-drop}
 use Rattle.exr_base.specs.declared.method.Method.{Method}
@@ -8,13 +8,12 @@ use Rattle.exr_base.specs.Refusal.{◌>>=◌}
 use Rattle.exr_block.specs.declared.fault.ChunkFault.{ChunkFault}
 use Rattle.exr_block.specs.declared.fault.ChunkFault.TheVariants.{Outside, WrongSize, WrongPlace}
 use Rattle.exr_block.specs.Sizes.{is_size}
-use Rattle.exr_header.specs.Head.{Head}
 use Rattle.exr_base.specs.Shape.{width_of, height_of, raw_size_of}
 use Rattle.exr_chunks.specs.Heads.{Header, is_deep}
-use Rattle.exr_chunks.specs.Region.{header_at, chunk_bytes_of, place_of, region_of}
+use Rattle.exr_chunks.specs.Region.{chunk_bytes_of, place_of, region_of}
 use Rattle.exr_chunks.specs.Table.{entry_place}
-use Rattle.exr_stream.specs.Fields.{chunk_fields}
-use Rattle.exr_stream.specs.Chunk.{first_bytes, written_entry, entry_in, sized_data, named_data, data_in, chunk_of}
+use Rattle.exr_chunks.specs.Fields.{chunk_fields}
+use Rattle.exr_stream.specs.Chunk.{Opened, header_in, first_bytes, written_entry, entry_in, sized_data, named_data, data_in, chunk_of}
 use Rattle.std.specs.Int.{w32, w64, from_le_bytes}
 
 -- ---- first bytes
@@ -120,15 +119,17 @@ named fields bytes m raw long same =
 
 -- ---- a chunk by its entry
 
-pub chunk_at : (file : List ℕ) (head : Head) (head_bytes part i entry : ℕ) → entry_in (drop (entry_place head.parts head_bytes part i) file) ≡ Ok entry → chunk_of file head head_bytes part i ≡ data_in (chunk_fields head.multi part (place_of (header_at head.parts part) i)) (header_at head.parts part).method (chunk_bytes_of (header_at head.parts part) i) (drop entry file)
-unfolding chunk_of
-chunk_at file head head_bytes part i entry e =
-    ap (λ r. r >>= λ at. data_in (chunk_fields head.multi part (place_of (header_at head.parts part) i)) (header_at head.parts part).method (chunk_bytes_of (header_at head.parts part) i) (drop at file)) e
+-- what a chunk of a file is read by: the fields that name it, and its data from a place on
+abbrev pub chunk_data : Opened → ℕ → ℕ → ℕ → Result (List ℕ) ChunkFault
+chunk_data file part i entry = data_in (chunk_fields file.head.multi part (place_of (header_in file part) i)) (header_in file part).method (chunk_bytes_of (header_in file part) i) (drop entry file.content)
 
-pub chunk_not : (file : List ℕ) (head : Head) (head_bytes part i : ℕ) (fault : ChunkFault) → entry_in (drop (entry_place head.parts head_bytes part i) file) ≡ Err fault → chunk_of file head head_bytes part i ≡ Err fault
+pub chunk_at : (file : Opened) (part i entry : ℕ) → entry_in (drop (entry_place file.head.parts file.head_bytes part i) file.content) ≡ Ok entry → chunk_of file part i ≡ chunk_data file part i entry
 unfolding chunk_of
-chunk_not file head head_bytes part i fault e =
-    ap (λ r. r >>= λ at. data_in (chunk_fields head.multi part (place_of (header_at head.parts part) i)) (header_at head.parts part).method (chunk_bytes_of (header_at head.parts part) i) (drop at file)) e
+chunk_at file part i entry e = ap (λ r. r >>= chunk_data file part i) e
+
+pub chunk_not : (file : Opened) (part i : ℕ) (fault : ChunkFault) → entry_in (drop (entry_place file.head.parts file.head_bytes part i) file.content) ≡ Err fault → chunk_of file part i ≡ Err fault
+unfolding chunk_of
+chunk_not file part i fault e = ap (λ r. r >>= chunk_data file part i) e
 
 -- a flat chunk has the raw bytes of its region
 pub flat_bytes : (h : Header) (i : ℕ) → is_deep h.kind ≡ false → chunk_bytes_of h i ≡ raw_size_of h.channels (region_of h i)

@@ -8,9 +8,20 @@ use Rattle.exr_block.specs.declared.fault.ChunkFault.{ChunkFault}
 use Rattle.exr_block.specs.declared.fault.ChunkFault.TheVariants.{Unwritten, Outside, WrongPlace, WrongSize}
 use Rattle.exr_block.specs.Sizes.{is_size}
 use Rattle.exr_header.specs.Head.{Head}
+use Rattle.exr_chunks.specs.Heads.{Header}
 use Rattle.exr_chunks.specs.Region.{header_at, chunk_bytes_of, place_of}
 use Rattle.exr_chunks.specs.Table.{entry_place}
-use Rattle.exr_stream.specs.Fields.{chunk_fields}
+use Rattle.exr_chunks.specs.Fields.{chunk_fields}
+
+-- a file whose head was read: its bytes, its head, and how many bytes the head fills
+pub record Opened : Type 0 where
+  pub content : List ℕ
+  pub head : Head
+  pub head_bytes : ℕ
+
+-- the header of a part
+abbrev pub header_in : Opened → ℕ → Header
+header_in file part = header_at file.head.parts part
 
 -- the first bytes of some, where there are so many
 unfoldable pub first_bytes : ℕ → List ℕ → Result (List ℕ) ChunkFault
@@ -40,8 +51,8 @@ unfoldable pub data_in : List ℕ → Method → ℕ → List ℕ → Result (Li
 data_in fields method raw bytes =
     first_bytes (length fields + 4) bytes >>= λ front. named_data fields front method raw (drop (length fields + 4) bytes)
 
--- the data of a chunk of a file whose head fills some bytes
-unfoldable pub chunk_of : List ℕ → Head → ℕ → ℕ → ℕ → Result (List ℕ) ChunkFault
-chunk_of file head head_bytes part i =
-    entry_in (drop (entry_place head.parts head_bytes part i) file) >>= λ entry.
-    data_in (chunk_fields head.multi part (place_of (header_at head.parts part) i)) (header_at head.parts part).method (chunk_bytes_of (header_at head.parts part) i) (drop entry file)
+-- the data of chunk i of a part of a file
+unfoldable pub chunk_of : Opened → ℕ → ℕ → Result (List ℕ) ChunkFault
+chunk_of file part i =
+    entry_in (drop (entry_place file.head.parts file.head_bytes part i) file.content) >>= λ entry.
+    data_in (chunk_fields file.head.multi part (place_of (header_in file part) i)) (header_in file part).method (chunk_bytes_of (header_in file part) i) (drop entry file.content)

@@ -1,19 +1,21 @@
 -- A file that is read chunk by chunk.
-use Rattle.std.specs.Prelude.{◌≡◌, ◌*◌, ◌≤◌, ◌^◌, ℕ, IsTrue, List, length, take, drop, map, sum_by, Result, Ok, Err}
+use Rattle.std.specs.Prelude.{◌≡◌, ◌*◌, ◌≤◌, ◌^◌, ℕ, IsTrue, List, length, take, drop, map, sum_by, All, Result, Ok, Err}
 use Rattle.exr_base.specs.declared.refusal.Refusal.{Refusal}
 use Rattle.exr_base.specs.declared.refusal.Refusal.TheVariants.{Fault, NoMemory}
 use Rattle.exr_block.specs.declared.fault.ChunkFault.{ChunkFault}
 use Rattle.exr_block.specs.declared.body.Body.{Body}
 use Rattle.exr_block.specs.Body.{data_of}
 use Rattle.exr_header.specs.Head.{Head, head_of}
-use Rattle.exr_chunks.specs.Heads.{chunk_count_of}
+use Rattle.exr_chunks.specs.Heads.{chunk_count_of, IsPicture}
 use Rattle.exr_chunks.specs.Part.{without_attributes}
+use Rattle.exr_chunks.specs.Sizes.{IsMeasured}
 use Rattle.exr_outside.specs.Source.{SourceMeaning, IsSameSource}
 use Rattle.exr_opening.specs.declared.opening.OpenFault.{OpenFault}
 use Rattle.exr_opening.specs.declared.opening.OpenFault.TheVariants as opening
 use Rattle.exr_stream.specs.declared.fault.FetchFault.{FetchFault}
 use Rattle.exr_stream.specs.declared.fault.FetchFault.TheVariants as fetch
 use Rattle.exr_stream.specs.declared.front.Front.{Front}
+use Rattle.exr_stream.specs.Chunk.{Opened}
 
 -- what contracts see of a stream: its source, the head of the file and how many bytes the head fills
 pub record StreamView (S : Type 0) : Type 0 where
@@ -21,7 +23,11 @@ pub record StreamView (S : Type 0) : Type 0 where
   pub head : Head
   pub head_bytes : ℕ
 
--- the head is that of the source's content, where the source tells it
+-- the file of a stream, where the source's content is known
+abbrev pub file_of : {S : Type 0} → SourceMeaning S → StreamView S → Opened
+file_of means s = record { content = means.content s.source; head = s.head; head_bytes = s.head_bytes }
+
+-- the head is that of the source's content, where the content is known
 abbrev pub HasHead : {S : Type 0} → SourceMeaning S → StreamView S → Type 0
 HasHead means s = IsTrue means.tells → head_of (means.content s.source) ≡ Ok (s.head, s.head_bytes)
 
@@ -65,10 +71,12 @@ OnlyReads (Err NoMemory) rose = Unit {0}
 
 -- ---- what is read before any chunk
 
--- its numbers are those of its head
+-- its numbers are those of its head, and its headers are those of a head
 pub record IsFront (f : Front) : Type 0 where
   pub small : f.head_bytes ≤ 2 ^ 24
   pub geometry : f.geometry ≡ map without_attributes f.head.parts
+  pub pictures : All IsPicture f.head.parts
+  pub measured : All IsMeasured f.head.parts
 
 -- it is that of a content: the head, the length, and of the tables as much as is there
 pub record IsFrontOf (f : Front) (content : List ℕ) : Type 0 where

@@ -81,8 +81,8 @@ impl Front {
         requires part { part < length self.now.head.parts }
         requires index { index < chunk_count_of (header_at self.now.head.parts part) }
         requires flat { is_deep (header_at self.now.head.parts part).kind ≡ false }
-        ensures chunk { IsTrue S.means.tells → Fetches result
-            (chunk_of (S.means.content source.old) self.now.head self.now.head_bytes part index) }
+        ensures chunk { IsTrue S.means.tells → Fetches result (chunk_of
+            (record { content = S.means.content source.old; head = self.now.head; head_bytes = self.now.head_bytes }) part index) }
         ensures fits { IfOk result (λ body. IsTrue (sizes_fit (header_at self.now.head.parts part).method
             (header_at self.now.head.parts part).channels (region_of (header_at self.now.head.parts part) index) body)) }
         ensures same { IsSameSource S.means source.old source.new }

@@ -1,25 +1,24 @@
 //! What is read of a file before any chunk: its head and its tables of offsets.
 
-ghost use Rattle.std.specs.Prelude.{◌≡◌, ◌*◌, ◌≤◌, ◌<◌, ◌^◌, ℕ, List, IsTrue, IfOk, IfErr, length, take, drop};
+ghost use Rattle.std.specs.Prelude.{◌≡◌, ◌*◌, ◌≤◌, ◌<◌, ◌^◌, ℕ, List, false, IsTrue, IfOk, IfErr, length, take, drop};
 ghost use Rattle.exr_outside.specs.Count.{Rose};
 ghost use Rattle.exr_outside.specs.Source.{IsSameSource};
-ghost use Rattle.exr_chunks.specs.Heads.{Header};
+ghost use Rattle.exr_chunks.specs.Heads.{Header, is_deep};
 ghost use Rattle.exr_header.specs.Head.{head_of};
 ghost use Rattle.exr_opening.specs.Opening.{OnlyReads};
-ghost use Rattle.exr_base.specs.Shape.{IsRegion};
+ghost use Rattle.exr_base.specs.Shape.{IsRegion, IsShape, raw_size_of};
 ghost use Rattle.exr_chunks.specs.Heads.{chunk_count_of};
-ghost use Rattle.exr_chunks.specs.Pixels.{IsInside};
+ghost use Rattle.exr_base.specs.Boxes.{IsInside};
 ghost use Rattle.exr_chunks.specs.Region.{header_at, region_of, chunk_bytes_of, place_of};
 ghost use Rattle.exr_chunks.specs.Table.{entry_place};
-ghost use Rattle.exr_stream.specs.Fields.{chunk_fields};
+ghost use Rattle.exr_chunks.specs.Fields.{chunk_fields};
 ghost use Rattle.exr_stream.specs.Chunk.{entry_in};
 ghost use Rattle.exr_stream.specs.Stream.{IsWhyNot, OwesRead, IsFront, IsFrontOf};
 
 use crate::data::{Expected, entry_in};
-use crate::fields::chunk_fields;
-use exr_base::{Box2i, NoMemory, Refusal};
+use exr_base::{Box2i, NoMemory, Refusal, Shape};
 use exr_block::ChunkFault;
-use exr_chunks::Geometry;
+use exr_chunks::{Geometry, chunk_fields};
 use exr_header::FileHead;
 use exr_opening::{OpenFault, open_head, read_piece};
 use exr_outside::Source;
@@ -122,6 +121,25 @@ impl Front {
         ensures inside { IsInside (header_at self.now.head.parts part).window result }
     {
         self.geometry.region(part, index)
+    }
+
+    /// The channels of a part over the region of a chunk.
+    pub fn shape(&self, part: u32, index: u32) -> Shape<'_>
+        requires front { IsFront self.now }
+        requires part { part < length self.now.head.parts }
+        requires index { index < chunk_count_of (header_at self.now.head.parts part) }
+        ensures channels { result.channels.now ≡ (header_at self.now.head.parts part).channels }
+        ensures region { result.region ≡ region_of (header_at self.now.head.parts part) index }
+        ensures shape { IsShape result.channels.now result.region }
+        ensures small { is_deep (header_at self.now.head.parts part).kind ≡ false
+            → raw_size_of result.channels.now result.region ≤ 2 ^ 26 }
+    {
+        let region = self.region(part, index);
+        let header = &self.head.parts()[part as usize];
+        Shape {
+            channels: header.channels(),
+            region,
+        }
     }
 
     /// What is asked of a chunk.

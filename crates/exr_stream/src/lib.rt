@@ -4,11 +4,8 @@
 mod data;
 mod fault;
 mod fetch;
-mod fields;
 mod front;
 mod stream;
-#[cfg(test)]
-mod tests;
 
 pub use exr_opening::OpenFault;
 pub use fault::FetchFault;

@@ -1,21 +1,21 @@
 //! A file that is read chunk by chunk.
 
-ghost use Rattle.std.specs.Prelude.{◌≡◌, ◌≤◌, ◌<◌, ◌^◌, false, IsTrue, IfOk, IfErr, length, map};
+ghost use Rattle.std.specs.Prelude.{◌≡◌, ◌≤◌, ◌<◌, ◌^◌, false, IsTrue, IfOk, IfErr, All, length, map};
 ghost use Rattle.exr_outside.specs.Count.{Rose};
 ghost use Rattle.exr_outside.specs.Source.{IsSameSource};
 ghost use Rattle.exr_chunks.specs.Heads.{is_deep};
-ghost use Rattle.exr_base.specs.Shape.{IsRegion};
+ghost use Rattle.exr_base.specs.Shape.{IsRegion, IsShape, raw_size_of};
 ghost use Rattle.exr_chunks.specs.Heads.{IsPicture, chunk_count_of};
-ghost use Rattle.exr_chunks.specs.Pixels.{IsInside};
+ghost use Rattle.exr_base.specs.Boxes.{IsInside};
 ghost use Rattle.exr_chunks.specs.Part.{without_attributes};
 ghost use Rattle.exr_chunks.specs.Region.{header_at, region_of};
 ghost use Rattle.exr_block.specs.Sizes.{sizes_fit};
 ghost use Rattle.exr_stream.specs.Chunk.{chunk_of};
-ghost use Rattle.exr_stream.specs.Stream.{HasHead, IsSameStream, IsWhyNot, OwesRead, Fetches, OwesFetch};
+ghost use Rattle.exr_stream.specs.Stream.{file_of, HasHead, IsSameStream, IsWhyNot, OwesRead, Fetches, OwesFetch};
 
 use crate::fault::FetchFault;
 use crate::front::Front;
-use exr_base::{Box2i, Refusal};
+use exr_base::{Box2i, Refusal, Shape};
 use exr_block::Body;
 use exr_chunks::Geometry;
 use exr_header::{FileHead, Header};
@@ -87,7 +87,9 @@ impl<W: World, S: Source> Stream<W, S> {
 
     /// Where the chunks of the file lie.
     pub fn geometry(&self) -> &Geometry
-        ensures { result.now ≡ map without_attributes self.now.head.parts }
+        ensures exact { result.now ≡ map without_attributes self.now.head.parts }
+        // What holds of the headers of each head.
+        ensures pictures { All IsPicture self.now.head.parts }
     {
         &self.front.geometry
     }
@@ -118,6 +120,19 @@ impl<W: World, S: Source> Stream<W, S> {
         ensures inside { IsInside (header_at self.now.head.parts part).window result }
     {
         self.front.region(part, index)
+    }
+
+    /// The channels of a part over the region of one of its chunks.
+    pub fn shape(&self, part: u32, index: u32) -> Shape<'_>
+        requires part { part < length self.now.head.parts }
+        requires index { index < chunk_count_of (header_at self.now.head.parts part) }
+        ensures channels { result.channels.now ≡ (header_at self.now.head.parts part).channels }
+        ensures region { result.region ≡ region_of (header_at self.now.head.parts part) index }
+        ensures shape { IsShape result.channels.now result.region }
+        ensures small { is_deep (header_at self.now.head.parts part).kind ≡ false
+            → raw_size_of result.channels.now result.region ≤ 2 ^ 26 }
+    {
+        self.front.shape(part, index)
     }
 
     /// How many bytes the head fills, at most 2^24.
@@ -160,8 +175,7 @@ impl<W: World, S: Source> Stream<W, S> {
         requires part { part < length self.now.head.parts }
         requires index { index < chunk_count_of (header_at self.now.head.parts part) }
         requires flat { is_deep (header_at self.now.head.parts part).kind ≡ false }
-        ensures chunk { IsTrue S.means.tells → Fetches result
-            (chunk_of (S.means.content self.old.source) self.old.head self.old.head_bytes part index) }
+        ensures chunk { IsTrue S.means.tells → Fetches result (chunk_of (file_of S.means self.old) part index) }
         ensures fits { IfOk result (λ body. IsTrue (sizes_fit (header_at self.old.head.parts part).method
             (header_at self.old.head.parts part).channels (region_of (header_at self.old.head.parts part) index) body)) }
         ensures same { IsSameStream S.means self.old self.new }

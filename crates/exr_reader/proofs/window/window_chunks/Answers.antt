@@ -1,18 +1,13 @@
 use Rattle.exr_chunks.specs.Region.{header_at}
-use Rattle.exr_reader.proofs.Meeting.{window_listed, window_chunks, window_few, if_ok}
+use Rattle.exr_reader.proofs.Meeting.{window_listed, window_chunks, if_ok}
 use Rattle.exr_reader.proofs.window.window_chunks.Goals as goal
 
 pub returns-clause-exact : goal.returns-clause-exact
 returns-clause-exact g c =
     let hs = c.args.stream.now.head.parts in
-    if_ok c.chunks_of.result _ _ (λ chunks is. window_listed c.geometry.result.now hs c.args.part c.args.window chunks.items c.geometry.ensures is) c.chunks_of.ensures
+    if_ok c.chunks_of.result _ _ (λ chunks is. window_listed c.geometry.result.now hs c.args.part c.args.window chunks.items c.geometry.ensures.exact is) c.chunks_of.ensures.exact
 
 pub returns-clause-chunks : goal.returns-clause-chunks
 returns-clause-chunks g c =
     let h = header_at c.args.stream.now.head.parts c.args.part in
     if_ok c.chunks_of.result _ _ (λ chunks is. window_chunks h c.args.window chunks.items is) (returns-clause-exact g c)
-
-pub returns-clause-few : goal.returns-clause-few
-returns-clause-few g c =
-    let h = header_at c.args.stream.now.head.parts c.args.part in
-    if_ok c.chunks_of.result _ _ (λ chunks is. window_few h c.args.window chunks.items c.chunk_count-fits_32_bits.result is c.chunk_count-fits_32_bits.ensures c.chunk_count-fits_32_bits.type_inv) (returns-clause-exact g c)

@@ -1,6 +1,6 @@
 -- The geometry knows the parts of the head.
 use Rattle.std.proofs.Common.{ap, ◌∙◌}
-use Rattle.exr_stream.specs.Fields.{chunk_fields}
+use Rattle.exr_chunks.specs.Fields.{chunk_fields}
 use Rattle.exr_stream.proofs.Bare.{within, place_by, bytes_by}
 use Rattle.exr_stream.proofs.front.Front.expected.Goals as goal
 

@@ -10,7 +10,7 @@ returns-clause-content g c = λ told.
     let opened = c.in_ok-opened.ensures.opened told in
     let same = c.open_head.ensures.same.content told in
     let total : c.total.result ≡ sum_by chunk_count_of c.in_ok-opened.opened.head.parts =
-    c.total.ensures.exact ∙ ap (sum_by chunk_count_of) c.in_ok-geometry.ensures ∙ bare_counts c.in_ok-opened.opened.head.parts in
+    c.total.ensures.exact ∙ ap (sum_by chunk_count_of) c.in_ok-geometry.ensures.exact ∙ bare_counts c.in_ok-opened.opened.head.parts in
     record {
       head = opened.0;
       length = opened.1;

@@ -1,6 +1,6 @@
 -- The geometry knows the parts of the head.
 use Rattle.std.proofs.Common.{subst, ◌∙◌}
-use Rattle.exr_chunks.specs.Pixels.{IsInside}
+use Rattle.exr_base.specs.Boxes.{IsInside}
 use Rattle.exr_stream.proofs.Bare.{within, region_by, window_by}
 use Rattle.exr_stream.proofs.front.Front.region.Goals as goal
 
