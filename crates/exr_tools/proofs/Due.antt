@@ -6,18 +6,19 @@ use Rattle.exr_block.specs.declared.fault.ChunkFault.{ChunkFault}
 use Rattle.exr_header.specs.Head.{Head, head_of}
 use Rattle.exr_chunks.specs.Region.{header_at}
 use Rattle.exr_chunks.specs.Window.{chunks_of_window}
-use Rattle.exr_stream.specs.Chunk.{chunk_of}
-use Rattle.exr_frame.specs.declared.plan.Plan.{Plan}
-use Rattle.exr_frame.specs.Judging.{Frame}
-use Rattle.exr_request.specs.Demand.{Demand}
+use Rattle.exr_stream.specs.Chunk.{Opened}
+use Rattle.exr_layout.specs.Plan.{Matching}
+use Rattle.exr_layout.specs.Validation.{Frame}
+use Rattle.exr_asked.specs.Demand.{Demand}
 use Rattle.exr_request.specs.Request.{window_asked, part_asked, IsGranted, IsRefused}
 use Rattle.exr_request.proofs.Once.{one_refusal, not_both as granted_not_refused}
+use Rattle.exr_reader.specs.Sample.{raw_of}
 use Rattle.exr_reader.specs.Window.{IsFirstFaultOf}
 use Rattle.exr_tools.specs.declared.stop.Stop.{Stop}
 use Rattle.exr_tools.specs.declared.stop.Stop.TheVariants.{NoMemory, Words, File, Read, Write, Request, Form}
 use Rattle.exr_tools.specs.declared.stop.FileFault.TheVariants as fault
 use Rattle.exr_tools.specs.Stops.{stop_asked}
-use Rattle.exr_tools.specs.Run.{chunks_asked, IsReadable, IsRefusedBy, HasFirstFault, IsUnread, HasReason, OwesRise, StopsOr}
+use Rattle.exr_tools.specs.Run.{with_head, chunks_asked, IsReadable, IsRefusedBy, HasFirstFault, IsUnread, HasReason, OwesRise, StopsOr}
 
 -- ---- heads and requests
 
@@ -44,145 +45,145 @@ not_both r x e ok err = absurd (cc (sym ok ∙ err))
 -- ---- what is granted
 
 -- two frames of what is asked for have one window
-window_is : (head : Head) (d : Demand) (f g : Frame) (p q : Plan) → IsGranted head d f p → IsGranted head d g q → f.window ≡ g.window
+window_is : (head : Head) (d : Demand) (f g : Frame) (p q : Matching) → IsGranted head d f p → IsGranted head d g q → f.window ≡ g.window
 window_is head d f g p q first second =
     first.fit.arranged.window
     ∙ ap (window_asked d) (one_value (part_asked head d) first.part second.part first.asked second.asked)
     ∙ sym second.fit.arranged.window
 
-chunks_are : (head : Head) (d : Demand) (f g : Frame) (p q : Plan) → IsGranted head d f p → IsGranted head d g q → chunks_asked head d f ≡ chunks_asked head d g
+chunks_are : (head : Head) (d : Demand) (f g : Frame) (p q : Matching) → IsGranted head d f p → IsGranted head d g q → chunks_asked head d f ≡ chunks_asked head d g
 chunks_are head d f g p q first second =
     ap (chunks_of_window (header_at head.parts d.part)) (window_is head d f g p q first second)
 
 -- ---- stops that what is asked of a file calls for
 
 -- one of three
-data Seen (file : List ℕ) (d : Demand) (stop : Stop) : Type 0 where
-  no_head : (f : HeaderFault) → stop ≡ File 0 (fault.Head f) → head_of file ≡ Err f → Seen file d stop
-  refused : IsRefusedBy stop file d → Seen file d stop
-  broken : (index : ℕ) (f : ChunkFault) → stop ≡ File 0 (fault.Chunk d.part index f) → HasFirstFault file d index f → Seen file d stop
+data Seen (i : ℕ) (file : List ℕ) (d : Demand) (stop : Stop) : Type 0 where
+  no_head : (f : HeaderFault) → stop ≡ File i (fault.Head f) → head_of file ≡ Err f → Seen i file d stop
+  refused : IsRefusedBy stop file d → Seen i file d stop
+  broken : (index : ℕ) (f : ChunkFault) → stop ≡ File i (fault.Chunk d.part index f) → HasFirstFault file d index f → Seen i file d stop
 
-seen : (file : List ℕ) (d : Demand) (stop : Stop) → IsUnread stop file d → Seen file d stop
-seen file d NoMemory due = absurd due
-seen file d (Words position) due = absurd due
-seen file d (File index (fault.Head f)) due = no_head f (ap (λ n. File n (fault.Head f)) due.0) due.1
-seen file d (File index (fault.Chunk p n f)) due = broken n f (ap (λ m. File m (fault.Chunk p n f)) due.0 ∙ ap (λ q. File 0 (fault.Chunk q n f)) (due.1).0) (due.1).1
-seen file d Read due = absurd due
-seen file d Write due = absurd due
-seen file d (Request r) due = refused due
-seen file d Form due = refused due
+seen : (i : ℕ) (file : List ℕ) (d : Demand) (stop : Stop) → IsUnread stop i file d → Seen i file d stop
+seen i file d NoMemory due = absurd due
+seen i file d (Words position) due = absurd due
+seen i file d (File index (fault.Head f)) due = no_head f (ap (λ n. File n (fault.Head f)) due.0) due.1
+seen i file d (File index (fault.Chunk p n f)) due = broken n f (ap (λ m. File m (fault.Chunk p n f)) due.0 ∙ ap (λ q. File i (fault.Chunk q n f)) (due.1).0) (due.1).1
+seen i file d Read due = absurd due
+seen i file d Write due = absurd due
+seen i file d (Request r) due = refused due
+seen i file d Form due = refused due
 
 -- a fault of the chunks of one frame, of the same head and file
-moved : (file : List ℕ) (d : Demand) (n : ℕ) (g : ChunkFault) (head : Head) (bytes : ℕ) (frame : Frame) (plan : Plan) → head_of file ≡ Ok (head, bytes) → IsGranted head d frame plan
-    → (second : HasFirstFault file d n g) → IsFirstFaultOf file head bytes d.part (chunks_asked head d frame) second.rank n g
+moved : (file : List ℕ) (d : Demand) (n : ℕ) (g : ChunkFault) (head : Head) (bytes : ℕ) (frame : Frame) (plan : Matching) → head_of file ≡ Ok (head, bytes) → IsGranted head d frame plan
+    → (second : HasFirstFault file d n g) → IsFirstFaultOf (with_head file head bytes) d.part (chunks_asked head d frame) second.rank n g
 moved file d n g head bytes frame plan found granted second =
     let heads = one_value (head_of file) (second.head, second.bytes) (head, bytes) second.found found in
     let other : IsGranted head d second.frame second.plan = subst (λ (x : Head × ℕ). IsGranted x.0 d second.frame second.plan) heads second.granted in
-    let same_head : IsFirstFaultOf file head bytes d.part (chunks_asked head d second.frame) second.rank n g =
-    subst (λ (x : Head × ℕ). IsFirstFaultOf file x.0 x.1 d.part (chunks_asked x.0 d second.frame) second.rank n g) heads second.first in
-    subst (λ chunks. IsFirstFaultOf file head bytes d.part chunks second.rank n g) (chunks_are head d second.frame frame second.plan plan other granted) same_head
+    let same_head : IsFirstFaultOf (with_head file head bytes) d.part (chunks_asked head d second.frame) second.rank n g =
+    subst (λ (x : Head × ℕ). IsFirstFaultOf (with_head file x.0 x.1) d.part (chunks_asked x.0 d second.frame) second.rank n g) heads second.first in
+    subst (λ chunks. IsFirstFaultOf (with_head file head bytes) d.part chunks second.rank n g) (chunks_are head d second.frame frame second.plan plan other granted) same_head
 
 -- a first fault is one
-one_fault : (file : List ℕ) (head : Head) (bytes part : ℕ) (chunks : List ℕ) (r s m n : ℕ) (f g : ChunkFault) → IsFirstFaultOf file head bytes part chunks r m f → IsFirstFaultOf file head bytes part chunks s n g → (m ≡ n) × (f ≡ g)
-one_fault file head bytes part chunks r s m n f g first second =
+one_fault : (file : Opened) (part : ℕ) (chunks : List ℕ) (r s m n : ℕ) (f g : ChunkFault) → IsFirstFaultOf file part chunks r m f → IsFirstFaultOf file part chunks s n g → (m ≡ n) × (f ≡ g)
+one_fault file part chunks r s m n f g first second =
     elim (cases_lt r s) [
       | inl lt ↦
           let has = second.before r first.within lt in
-          absurd (not_both (chunk_of file head bytes part (slice_index chunks r)) has.0 f has.1 (ap (λ i. chunk_of file head bytes part i) first.index ∙ first.found))
+          absurd (not_both (raw_of file part (slice_index chunks r)) has.0 f has.1 (ap (λ i. raw_of file part i) first.index ∙ first.found))
       | inr le ↦
           elim (cases_lt s r) [
             | inl lt ↦
                 let has = first.before s second.within lt in
-                absurd (not_both (chunk_of file head bytes part (slice_index chunks s)) has.0 g has.1 (ap (λ i. chunk_of file head bytes part i) second.index ∙ second.found))
+                absurd (not_both (raw_of file part (slice_index chunks s)) has.0 g has.1 (ap (λ i. raw_of file part i) second.index ∙ second.found))
             | inr ge ↦
                 let e : r ≡ s = omega (arith, le, ge) in
                 let same : m ≡ n = sym first.index ∙ ap (slice_index chunks) e ∙ second.index in
-                (same, one_error (chunk_of file head bytes part n) f g (subst (λ i. chunk_of file head bytes part i ≡ Err f) same first.found) second.found)
+                (same, one_error (raw_of file part n) f g (subst (λ i. raw_of file part i ≡ Err f) same first.found) second.found)
           ]
     ]
 
 same_fault : (file : List ℕ) (d : Demand) (m n : ℕ) (f g : ChunkFault) → HasFirstFault file d m f → HasFirstFault file d n g → (m ≡ n) × (f ≡ g)
 same_fault file d m n f g first second =
-    one_fault file first.head first.bytes d.part (chunks_asked first.head d first.frame) first.rank second.rank m n f g first.first
+    one_fault (with_head file first.head first.bytes) d.part (chunks_asked first.head d first.frame) first.rank second.rank m n f g first.first
     (moved file d n g first.head first.bytes first.frame first.plan first.found first.granted second)
 
 -- what is refused is not granted
-refused_not_read : (file : List ℕ) (d : Demand) (stop : Stop) (head : Head) (bytes : ℕ) (frame : Frame) (plan : Plan) → head_of file ≡ Ok (head, bytes) → IsGranted head d frame plan → IsRefusedBy stop file d → ⊥
+refused_not_read : (file : List ℕ) (d : Demand) (stop : Stop) (head : Head) (bytes : ℕ) (frame : Frame) (plan : Matching) → head_of file ≡ Ok (head, bytes) → IsGranted head d frame plan → IsRefusedBy stop file d → ⊥
 refused_not_read file d stop head bytes frame plan found granted bad =
     let heads = one_value (head_of file) (bad.head, bad.bytes) (head, bytes) bad.found found in
     granted_not_refused head d frame plan bad.why granted (subst (λ (x : Head × ℕ). IsRefused x.0 d bad.why) heads bad.refused)
 
-same_seen : (file : List ℕ) (d : Demand) (a b : Stop) → Seen file d a → Seen file d b → a ≡ b
-same_seen file d a b (no_head f is bad) (no_head g is' bad') = is ∙ ap (λ h. File 0 (fault.Head h)) (one_error (head_of file) f g bad bad') ∙ sym is'
-same_seen file d a b (no_head f is bad) (refused r) = absurd (not_both (head_of file) (r.head, r.bytes) f r.found bad)
-same_seen file d a b (no_head f is bad) (broken n g is' r) = absurd (not_both (head_of file) (r.head, r.bytes) f r.found bad)
-same_seen file d a b (refused r) (no_head f is bad) = absurd (not_both (head_of file) (r.head, r.bytes) f r.found bad)
-same_seen file d a b (refused r) (refused s) =
+same_seen : (i : ℕ) (file : List ℕ) (d : Demand) (a b : Stop) → Seen i file d a → Seen i file d b → a ≡ b
+same_seen i file d a b (no_head f is bad) (no_head g is' bad') = is ∙ ap (λ h. File i (fault.Head h)) (one_error (head_of file) f g bad bad') ∙ sym is'
+same_seen i file d a b (no_head f is bad) (refused r) = absurd (not_both (head_of file) (r.head, r.bytes) f r.found bad)
+same_seen i file d a b (no_head f is bad) (broken n g is' r) = absurd (not_both (head_of file) (r.head, r.bytes) f r.found bad)
+same_seen i file d a b (refused r) (no_head f is bad) = absurd (not_both (head_of file) (r.head, r.bytes) f r.found bad)
+same_seen i file d a b (refused r) (refused s) =
     let heads = one_value (head_of file) (r.head, r.bytes) (s.head, s.bytes) r.found s.found in
     r.is ∙ ap stop_asked (one_refusal s.head d r.why s.why (subst (λ (x : Head × ℕ). IsRefused x.0 d r.why) heads r.refused) s.refused) ∙ sym s.is
-same_seen file d a b (refused r) (broken n g is first) = absurd (refused_not_read file d a first.head first.bytes first.frame first.plan first.found first.granted r)
-same_seen file d a b (broken n g is first) (no_head f is' bad) = absurd (not_both (head_of file) (first.head, first.bytes) f first.found bad)
-same_seen file d a b (broken n g is first) (refused r) = absurd (refused_not_read file d b first.head first.bytes first.frame first.plan first.found first.granted r)
-same_seen file d a b (broken m f is first) (broken n g is' second) =
+same_seen i file d a b (refused r) (broken n g is first) = absurd (refused_not_read file d a first.head first.bytes first.frame first.plan first.found first.granted r)
+same_seen i file d a b (broken n g is first) (no_head f is' bad) = absurd (not_both (head_of file) (first.head, first.bytes) f first.found bad)
+same_seen i file d a b (broken n g is first) (refused r) = absurd (refused_not_read file d b first.head first.bytes first.frame first.plan first.found first.granted r)
+same_seen i file d a b (broken m f is first) (broken n g is' second) =
     let same = same_fault file d m n f g first second in
-    is ∙ ap (λ k. File 0 (fault.Chunk d.part k f)) same.0 ∙ ap (λ h. File 0 (fault.Chunk d.part n h)) same.1 ∙ sym is'
+    is ∙ ap (λ k. File i (fault.Chunk d.part k f)) same.0 ∙ ap (λ h. File i (fault.Chunk d.part n h)) same.1 ∙ sym is'
 
-pub due_alone : (file : List ℕ) (d : Demand) (a b : Stop) → IsUnread a file d → IsUnread b file d → a ≡ b
-due_alone file d a b first second = same_seen file d a b (seen file d a first) (seen file d b second)
+pub due_alone : (i : ℕ) (file : List ℕ) (d : Demand) (a b : Stop) → IsUnread a i file d → IsUnread b i file d → a ≡ b
+due_alone i file d a b first second = same_seen i file d a b (seen i file d a first) (seen i file d b second)
 
 -- ---- what can be read calls for none
 
-read_not_seen : (file : List ℕ) (d : Demand) (stop : Stop) → IsReadable file d → Seen file d stop → ⊥
-read_not_seen file d stop it (no_head f is bad) = not_both (head_of file) (it.head, it.bytes) f it.found bad
-read_not_seen file d stop it (refused r) = refused_not_read file d stop it.head it.bytes it.frame it.plan it.found it.granted r
-read_not_seen file d stop it (broken n f is first) =
+read_not_seen : (i : ℕ) (file : List ℕ) (d : Demand) (stop : Stop) → IsReadable file d → Seen i file d stop → ⊥
+read_not_seen i file d stop it (no_head f is bad) = not_both (head_of file) (it.head, it.bytes) f it.found bad
+read_not_seen i file d stop it (refused r) = refused_not_read file d stop it.head it.bytes it.frame it.plan it.found it.granted r
+read_not_seen i file d stop it (broken n f is first) =
     let here = moved file d n f it.head it.bytes it.frame it.plan it.found it.granted first in
     let chunk = it.chunks first.rank here.within here.within in
-    not_both (chunk_of file it.head it.bytes d.part (slice_index (chunks_asked it.head d it.frame) first.rank)) chunk.0 f chunk.1
-    (ap (λ i. chunk_of file it.head it.bytes d.part i) here.index ∙ here.found)
+    not_both (raw_of (with_head file it.head it.bytes) d.part (slice_index (chunks_asked it.head d it.frame) first.rank)) chunk.0 f chunk.1
+    (ap (λ k. raw_of (with_head file it.head it.bytes) d.part k) here.index ∙ here.found)
 
-pub read_not_due : (file : List ℕ) (d : Demand) (stop : Stop) → IsReadable file d → IsUnread stop file d → ⊥
-read_not_due file d stop it due = read_not_seen file d stop it (seen file d stop due)
+pub read_not_due : (i : ℕ) (file : List ℕ) (d : Demand) (stop : Stop) → IsReadable file d → IsUnread stop i file d → ⊥
+read_not_due i file d stop it due = read_not_seen i file d stop it (seen i file d stop due)
 
 -- ---- answers
 
 -- a stop with its reason, where the input calls for another
-stops_by : (file : List ℕ) (d : Demand) (stop due : Stop) (read write : Type 0) → HasReason stop (λ _. ⊥) (λ x. IsUnread x file d) read write → IsUnread due file d → (stop ≡ due) ⊎ OwesRise stop read write
-stops_by file d NoMemory due read write reason is = inr tt
-stops_by file d (Words position) due read write reason is = absurd reason
-stops_by file d (File n f) due read write reason is = inl (due_alone file d (File n f) due reason is)
-stops_by file d Read due read write reason is = inr (inl reason)
-stops_by file d Write due read write reason is = inr (inr reason)
-stops_by file d (Request r) due read write reason is = inl (due_alone file d (Request r) due reason is)
-stops_by file d Form due read write reason is = inl (due_alone file d Form due reason is)
+stops_by : (i : ℕ) (file : List ℕ) (d : Demand) (stop due : Stop) (read write : Type 0) → HasReason stop (λ _. ⊥) (λ x. IsUnread x i file d) read write → IsUnread due i file d → (stop ≡ due) ⊎ OwesRise stop read write
+stops_by i file d NoMemory due read write reason is = inr tt
+stops_by i file d (Words position) due read write reason is = absurd reason
+stops_by i file d (File n f) due read write reason is = inl (due_alone i file d (File n f) due reason is)
+stops_by i file d Read due read write reason is = inr (inl reason)
+stops_by i file d Write due read write reason is = inr (inr reason)
+stops_by i file d (Request r) due read write reason is = inl (due_alone i file d (Request r) due reason is)
+stops_by i file d Form due read write reason is = inl (due_alone i file d Form due reason is)
 
-owes_by : (file : List ℕ) (d : Demand) (stop : Stop) (read write : Type 0) → HasReason stop (λ _. ⊥) (λ x. IsUnread x file d) read write → IsReadable file d → OwesRise stop read write
-owes_by file d NoMemory read write reason has = tt
-owes_by file d (Words position) read write reason has = absurd reason
-owes_by file d (File n f) read write reason has = absurd (read_not_due file d (File n f) has reason)
-owes_by file d Read read write reason has = inl reason
-owes_by file d Write read write reason has = inr reason
-owes_by file d (Request r) read write reason has = absurd (read_not_due file d (Request r) has reason)
-owes_by file d Form read write reason has = absurd (read_not_due file d Form has reason)
+owes_by : (i : ℕ) (file : List ℕ) (d : Demand) (stop : Stop) (read write : Type 0) → HasReason stop (λ _. ⊥) (λ x. IsUnread x i file d) read write → IsReadable file d → OwesRise stop read write
+owes_by i file d NoMemory read write reason has = tt
+owes_by i file d (Words position) read write reason has = absurd reason
+owes_by i file d (File n f) read write reason has = absurd (read_not_due i file d (File n f) has reason)
+owes_by i file d Read read write reason has = inl reason
+owes_by i file d Write read write reason has = inr reason
+owes_by i file d (Request r) read write reason has = absurd (read_not_due i file d (Request r) has reason)
+owes_by i file d Form read write reason has = absurd (read_not_due i file d Form has reason)
 
 -- what holds where the content is told
-told_reason : (file : List ℕ) (d : Demand) (stop : Stop) (T read write : Type 0) → T → HasReason stop (λ _. ⊥) (λ x. T → IsUnread x file d) read write → HasReason stop (λ _. ⊥) (λ x. IsUnread x file d) read write
-told_reason file d NoMemory T read write told reason = tt
-told_reason file d (Words position) T read write told reason = reason
-told_reason file d (File n f) T read write told reason = reason told
-told_reason file d Read T read write told reason = reason
-told_reason file d Write T read write told reason = reason
-told_reason file d (Request r) T read write told reason = reason told
-told_reason file d Form T read write told reason = reason told
+told_reason : (i : ℕ) (file : List ℕ) (d : Demand) (stop : Stop) (T read write : Type 0) → T → HasReason stop (λ _. ⊥) (λ x. T → IsUnread x i file d) read write → HasReason stop (λ _. ⊥) (λ x. IsUnread x i file d) read write
+told_reason i file d NoMemory T read write told reason = tt
+told_reason i file d (Words position) T read write told reason = reason
+told_reason i file d (File n f) T read write told reason = reason told
+told_reason i file d Read T read write told reason = reason
+told_reason i file d Write T read write told reason = reason
+told_reason i file d (Request r) T read write told reason = reason told
+told_reason i file d Form T read write told reason = reason told
 
 -- the stop that the input calls for, or another that owes a rise
-pub stops_or : (r : Result (Unit {0}) Stop) (file : List ℕ) (d : Demand) (due : Stop) (T done read write : Type 0) → T → (done → IsReadable file d) → (T → OnOk r done)
-    → IfErr r (λ stop. HasReason stop (λ _. ⊥) (λ x. T → IsUnread x file d) read write) → IsUnread due file d → StopsOr r due read write
-stops_or (Ok x) file d due T done read write told part_of ok reason is = read_not_due file d due (part_of (ok told)) is
-stops_or (Err stop) file d due T done read write told part_of ok reason is = stops_by file d stop due read write (told_reason file d stop T read write told reason) is
+pub stops_or : (r : Result (Unit {0}) Stop) (i : ℕ) (file : List ℕ) (d : Demand) (due : Stop) (T done read write : Type 0) → T → (done → IsReadable file d) → OnOk r done
+    → IfErr r (λ stop. HasReason stop (λ _. ⊥) (λ x. T → IsUnread x i file d) read write) → IsUnread due i file d → StopsOr r due read write
+stops_or (Ok x) i file d due T done read write told part_of ok reason is = read_not_due i file d due (part_of ok) is
+stops_or (Err stop) i file d due T done read write told part_of ok reason is = stops_by i file d stop due read write (told_reason i file d stop T read write told reason) is
 
 -- and where it calls for none, a rise
-pub owes_or : (r : Result (Unit {0}) Stop) (file : List ℕ) (d : Demand) (T read write : Type 0) → T → IfErr r (λ stop. HasReason stop (λ _. ⊥) (λ x. T → IsUnread x file d) read write)
+pub owes_or : (r : Result (Unit {0}) Stop) (i : ℕ) (file : List ℕ) (d : Demand) (T read write : Type 0) → T → IfErr r (λ stop. HasReason stop (λ _. ⊥) (λ x. T → IsUnread x i file d) read write)
     → IsReadable file d → IfErr r (λ stop. OwesRise stop read write)
-owes_or (Ok x) file d T read write told reason has = tt
-owes_or (Err stop) file d T read write told reason has = owes_by file d stop read write (told_reason file d stop T read write told reason) has
+owes_or (Ok x) i file d T read write told reason has = tt
+owes_or (Err stop) i file d T read write told reason has = owes_by i file d stop read write (told_reason i file d stop T read write told reason) has

@@ -1,51 +1,42 @@
 -- What a grant says of its part, of the window and of the layout; and stops of what is asked.
-use Rattle.std.proofs.Common.{◌≡◌, ◌<◌, ◌≤◌, ◌^◌, ℕ, ℤ, Bool, true, false, not, ◌||◌, IsTrue, List, ◌++◌, take, drop, length, Ok, refl, sym, ap, subst, arith, ◌≤ℤ◌}
+use Rattle.std.proofs.Common.{◌≡◌, ◌<◌, ◌≤◌, ◌^◌, ℕ, false, not, IsTrue, List, ◌++◌, take, drop, length, Ok, refl, sym, subst}
 use Rattle.std.specs.Prelude.{int_le, int_lt}
 use Rattle.std.proofs.lemmas.Bool.{and_parts}
-use Rattle.std.proofs.lemmas.Int.{ints}
 use Rattle.std.proofs.lemmas.List.{take_at}
+use Rattle.exr_base.proofs.Logic.{not_either, lt_false, le_true}
 use Rattle.exr_base.specs.declared.shape.Box2i.{Box2i}
 use Rattle.exr_base.specs.declared.refusal.Refusal.{Refusal}
 use Rattle.exr_base.specs.declared.refusal.Refusal.TheVariants as refusal
-use Rattle.exr_judge.specs.Picture.{is_empty}
 use Rattle.exr_header.specs.Head.{Head, head_of}
 use Rattle.exr_chunks.specs.Heads.{Header, is_deep}
-use Rattle.exr_chunks.specs.Pixels.{IsInside}
 use Rattle.exr_chunks.specs.Region.{no_header, header_at}
-use Rattle.exr_frame.specs.declared.plan.Plan.{Plan}
-use Rattle.exr_frame.specs.Judging.{Frame}
-use Rattle.exr_frame.specs.Plan.{is_side_inside, is_inside, IsPlanOf}
+use Rattle.exr_layout.specs.Plan.{Matching}
+use Rattle.exr_layout.specs.Validation.{Frame}
+use Rattle.exr_base.specs.Boxes.{is_empty, is_side_inside, is_inside, IsInside}
+use Rattle.exr_layout.specs.Plan.{IsPlanOf}
 use Rattle.exr_request.specs.declared.fault.RequestStop.{RequestStop}
 use Rattle.exr_request.specs.declared.fault.RequestStop.TheVariants as stops
-use Rattle.exr_request.specs.Demand.{Demand}
+use Rattle.exr_asked.specs.Demand.{Demand}
 use Rattle.exr_request.specs.Request.{is_window_of, window_asked, IsGranted, IsRefused, IsRefusal}
 use Rattle.exr_request.proofs.Passed.{readable, matched}
 use Rattle.exr_block.specs.declared.fault.ChunkFault.{ChunkFault}
+use Rattle.exr_outside.specs.Source.{SourceMeaning}
+use Rattle.exr_stream.specs.Chunk.{Opened}
+use Rattle.exr_stream.specs.Stream.{StreamView, file_of, IsSameStream}
 use Rattle.exr_reader.specs.declared.cause.ReadCause.{ReadCause}
 use Rattle.exr_reader.specs.declared.cause.ReadCause.TheVariants as why
 use Rattle.exr_reader.specs.Reading.{HasCause}
-use Rattle.exr_reader.specs.Window.{is_raw, is_flat, IsFirstFaultOf}
+use Rattle.exr_reader.specs.Window.{IsFirstFaultOf}
 use Rattle.exr_tools.specs.declared.stop.Stop.{Stop}
 use Rattle.exr_tools.specs.Stops.{stop_asked, stop_of_request, stop_of_reading}
-use Rattle.exr_tools.specs.Run.{chunks_asked, HasFirstFault, IsUnread, HasReason}
+use Rattle.exr_tools.specs.Run.{with_head, chunks_asked, HasFirstFault, IsUnread, HasReason}
 
 -- ---- windows
-
-neither : (a b : Bool) → not (a || b) ≡ true → (a ≡ false) × (b ≡ false)
-neither false false h = (refl, refl)
-neither false true h = absurd (cc)
-neither true b h = absurd (cc)
-
-lt_false : (a b : ℤ) → int_lt b a ≡ false → a ≤ℤ b
-lt_false a b h = grind (arith, ints)
-
-le_true : (a b : ℤ) → int_le a b ≡ true → a ≤ℤ b
-le_true a b h = grind (arith, ints)
 
 inside_of : (h : Header) (w : Box2i) → IsTrue (is_window_of h w) → IsInside h.window w
 inside_of h w within =
     let a = and_parts (not (is_empty w)) (is_inside w h.window) within in
-    let b = neither (int_lt w.x1 w.x0) (int_lt w.y1 w.y0) a.0 in
+    let b = not_either (int_lt w.x1 w.x0) (int_lt w.y1 w.y0) a.0 in
     let c = and_parts (is_side_inside w.x0 w.x1 h.window.x0 h.window.x1) (is_side_inside w.y0 w.y1 h.window.y0 h.window.y1) a.1 in
     let x = and_parts (int_le h.window.x0 w.x0) (int_le w.x1 h.window.x1) c.0 in
     let y = and_parts (int_le h.window.y0 w.y0) (int_le w.y1 h.window.y1) c.1 in
@@ -60,26 +51,23 @@ inside_of h w within =
 
 -- ---- grants
 
-pub record IsGround (head : Head) (d : Demand) (f : Frame) (plan : Plan) : Type 0 where
+pub record IsGround (head : Head) (d : Demand) (f : Frame) (plan : Matching) : Type 0 where
   pub there : d.part < length head.parts
-  pub flat : IsTrue (is_flat (header_at head.parts d.part))
+  pub flat : is_deep (header_at head.parts d.part).kind ≡ false
   pub inside : IsInside (header_at head.parts d.part).window f.window
   pub planned : IsPlanOf f (header_at head.parts d.part).channels plan
   pub small : f.buffer ≤ 2 ^ 30
 
-flat_is : (h : Header) → is_deep h.kind ≡ false → is_raw h.method ≡ true → IsTrue (is_flat h)
-flat_is h deep raw = rw (deep, raw) refl
-
-pub ground : (head : Head) (d : Demand) (f : Frame) (plan : Plan) → IsGranted head d f plan → IsGround head d f plan
+pub ground : (head : Head) (d : Demand) (f : Frame) (plan : Matching) → IsGranted head d f plan → IsGround head d f plan
 ground head d f plan granted =
     let h = granted.part in
     let r = readable head d h granted.asked in
     let same : h ≡ header_at head.parts d.part = sym (r.here no_header) in
-    let m = matched h f plan.channels.items granted.fit.tested in
+    let m = matched h f plan.channels granted.fit.tested in
     let window : window_asked d h ≡ f.window = sym granted.fit.arranged.window in
     record {
       there = r.there;
-      flat = subst (λ (x : Header). IsTrue (is_flat x)) same (flat_is h r.flat (ap is_raw r.raw));
+      flat = subst (λ (x : Header). is_deep x.kind ≡ false) same r.flat;
       inside = subst (λ (x : Header). IsInside x.window f.window) same (inside_of h f.window (subst (λ w. IsTrue (is_window_of h w)) window r.within));
       planned = subst (λ (x : Header). IsPlanOf f x.channels plan) same granted.fit.planned;
       small = m.small;
@@ -87,35 +75,42 @@ ground head d f plan granted =
 
 -- ---- stops
 
-asked_due : (why : RequestStop) (file : List ℕ) (d : Demand) (head : Head) (bytes : ℕ) → head_of file ≡ Ok (head, bytes) → IsRefused head d why → IsUnread (stop_asked why) file d
-asked_due stops.Form file d head bytes found refused = record { head = head; bytes = bytes; found = found; why = stops.Form; refused = refused; is = refl }
-asked_due (stops.Fault fault) file d head bytes found refused = record { head = head; bytes = bytes; found = found; why = stops.Fault fault; refused = refused; is = refl }
+asked_due : (why : RequestStop) (i : ℕ) (file : List ℕ) (d : Demand) (head : Head) (bytes : ℕ) → head_of file ≡ Ok (head, bytes) → IsRefused head d why → IsUnread (stop_asked why) i file d
+asked_due stops.Form i file d head bytes found refused = record { head = head; bytes = bytes; found = found; why = stops.Form; refused = refused; is = refl }
+asked_due (stops.Fault fault) i file d head bytes found refused = record { head = head; bytes = bytes; found = found; why = stops.Fault fault; refused = refused; is = refl }
 
 by_stop : (why : RequestStop) (P : Stop → Type 0) (T read : Type 0) → (T → P (stop_asked why)) → HasReason (stop_asked why) (λ _. ⊥) (λ due. T → P due) read ⊥
 by_stop stops.Form P T read due = due
 by_stop (stops.Fault fault) P T read due = due
 
 -- the reason of a request's refusal
-pub refused_reason : (r : Refusal RequestStop) (file : List ℕ) (d : Demand) (head : Head) (bytes : ℕ) (T read : Type 0) → (T → head_of file ≡ Ok (head, bytes)) → IsRefusal head d r
-    → HasReason (stop_of_request r) (λ _. ⊥) (λ due. T → IsUnread due file d) read ⊥
-refused_reason (refusal.Fault why) file d head bytes T read found refused =
-    by_stop why (λ due. IsUnread due file d) T read (λ told. asked_due why file d head bytes (found told) refused)
-refused_reason refusal.NoMemory file d head bytes T read found refused = tt
+pub refused_reason : (r : Refusal RequestStop) (i : ℕ) (file : List ℕ) (d : Demand) (head : Head) (bytes : ℕ) (T read : Type 0) → (T → head_of file ≡ Ok (head, bytes)) → IsRefusal head d r
+    → HasReason (stop_of_request r) (λ _. ⊥) (λ due. T → IsUnread due i file d) read ⊥
+refused_reason (refusal.Fault why) i file d head bytes T read found refused =
+    by_stop why (λ due. IsUnread due i file d) T read (λ told. asked_due why i file d head bytes (found told) refused)
+refused_reason refusal.NoMemory i file d head bytes T read found refused = tt
 
 -- the reason of a cause of reading
-pub reading_reason : (cause : ReadCause) (part : ℕ) (file : List ℕ) (d : Demand) (T rose rose' : Type 0) (P : ℕ → ChunkFault → Type 0) → part ≡ d.part → (rose → rose')
+pub reading_reason : (cause : ReadCause) (i part : ℕ) (file : List ℕ) (d : Demand) (T rose rose' : Type 0) (P : ℕ → ChunkFault → Type 0) → part ≡ d.part → (rose → rose')
     → ((n : ℕ) (f : ChunkFault) → P n f → T → HasFirstFault file d n f) → HasCause cause P rose
-    → HasReason (stop_of_reading part cause) (λ _. ⊥) (λ due. T → IsUnread due file d) rose' ⊥
-reading_reason why.NoMemory part file d T rose rose' P same up first has = tt
-reading_reason why.Read part file d T rose rose' P same up first has = up has
-reading_reason (why.Chunk n f) part file d T rose rose' P same up first has = λ told. (refl, (same, first n f has told))
+    → HasReason (stop_of_reading i part cause) (λ _. ⊥) (λ due. T → IsUnread due i file d) rose' ⊥
+reading_reason why.NoMemory i part file d T rose rose' P same up first has = tt
+reading_reason why.Read i part file d T rose rose' P same up first has = up has
+reading_reason (why.Chunk n f) i part file d T rose rose' P same up first has = λ told. (refl, (same, first n f has told))
 
 -- the first fault of a granted window
-pub first_of_window : (file : List ℕ) (head : Head) (bytes : ℕ) (d : Demand) (frame : Frame) (plan : Plan) (rank n : ℕ) (f : ChunkFault) → head_of file ≡ Ok (head, bytes) → IsGranted head d frame plan
-    → IsFirstFaultOf file head bytes d.part (chunks_asked head d frame) rank n f → HasFirstFault file d n f
+pub first_of_window : (file : List ℕ) (head : Head) (bytes : ℕ) (d : Demand) (frame : Frame) (plan : Matching) (rank n : ℕ) (f : ChunkFault) → head_of file ≡ Ok (head, bytes) → IsGranted head d frame plan
+    → IsFirstFaultOf (with_head file head bytes) d.part (chunks_asked head d frame) rank n f → HasFirstFault file d n f
 first_of_window file head bytes d frame plan rank n f found granted first =
     record { head = head; bytes = bytes; frame = frame; plan = plan; found = found; granted = granted; rank = rank; first = first }
 
 -- a buffer that was given back whole
 pub given_back : (given items : List ℕ) (n : ℕ) → length given ≡ n → take n (given ++ drop (length given) items) ≡ given
 given_back given items n e = take_at given (drop (length given) items) n e
+
+-- what holds of the file of a stream of the same file
+pub carried_back : {S : Type 0} (means : SourceMeaning S) (old new : StreamView S) (P : Opened → Type 0) → IsSameStream means old new → IsTrue means.tells → P (file_of means new) → P (file_of means old)
+carried_back means old new P same told has =
+    subst (λ bytes. P (with_head (means.content old.source) old.head bytes)) same.head_bytes
+    (subst (λ head. P (with_head (means.content old.source) head new.head_bytes)) same.head
+    (subst (λ file. P (with_head file new.head new.head_bytes)) (same.source.content told) has))

@@ -1,3 +1,3 @@
-pub mod Oks
 pub mod Due
 pub mod Granting
+pub mod Left

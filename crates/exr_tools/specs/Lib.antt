@@ -1,3 +1,5 @@
+pub mod Output
 pub mod Run
+pub mod Scene
 pub mod Stops
 pub mod Texts

@@ -17,11 +17,11 @@ abbrev pub stop_of_words : Refusal WordFault → Stop
 stop_of_words (refusal.Fault f) = Words f.position
 stop_of_words refusal.NoMemory = NoMemory
 
--- the file is the first of the command
-abbrev pub stop_of_opening : Refusal OpenFault → Stop
-stop_of_opening (refusal.Fault opening.Read) = Read
-stop_of_opening (refusal.Fault (opening.Head f)) = File 0 (Head f)
-stop_of_opening refusal.NoMemory = NoMemory
+-- of the input of a number
+abbrev pub stop_of_opening : ℕ → Refusal OpenFault → Stop
+stop_of_opening input (refusal.Fault opening.Read) = Read
+stop_of_opening input (refusal.Fault (opening.Head f)) = File input (Head f)
+stop_of_opening input refusal.NoMemory = NoMemory
 
 -- of what is asked of a head
 abbrev pub stop_asked : RequestStop → Stop
@@ -32,8 +32,8 @@ abbrev pub stop_of_request : Refusal RequestStop → Stop
 stop_of_request (refusal.Fault stop) = stop_asked stop
 stop_of_request refusal.NoMemory = NoMemory
 
--- of a part of that file
-abbrev pub stop_of_reading : ℕ → ReadCause → Stop
-stop_of_reading part cause.NoMemory = NoMemory
-stop_of_reading part cause.Read = Read
-stop_of_reading part (cause.Chunk index f) = File 0 (Chunk part index f)
+-- of a part of such an input
+abbrev pub stop_of_reading : ℕ → ℕ → ReadCause → Stop
+stop_of_reading input part cause.NoMemory = NoMemory
+stop_of_reading input part cause.Read = Read
+stop_of_reading input part (cause.Chunk index f) = File input (Chunk part index f)

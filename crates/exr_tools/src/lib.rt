@@ -7,7 +7,7 @@ mod print;
 mod stop;
 mod top;
 
-pub use exr_frame::{LayoutFault, MatchFault};
+pub use exr_layout::{LayoutFault, MatchFault};
 pub use exr_request::RequestFault;
 pub use stop::{FileFault, Stop, stop_line};
 pub use top::run;

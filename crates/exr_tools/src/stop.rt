@@ -35,7 +35,7 @@ pub enum Stop {
     /// Memory ran out.
     #[error("no memory")]
     NoMemory,
-    /// The word at this position, counted from 0, is not allowed; or a needed one is missing behind the last.
+    /// The word at this position, counted from 0, is invalid; or a required one is missing after the last.
     #[error("word {position}")]
     Words { position: u32 },
     /// A file has a fault; files are counted from 0, in the order of the words.
@@ -50,7 +50,7 @@ pub enum Stop {
     /// What is asked of a file cannot be had.
     #[error("request fault: {0}")]
     Request(RequestFault),
-    /// The part is none that the program reads so far.
+    /// A kind of part that is not supported so far: it is deep.
     #[error("form")]
     Form,
 }
@@ -107,6 +107,20 @@ fn file_line(alloc: Global, file: u32, fault: FileFault) -> Result<String, NoMem
     }
 }
 
+/// The stop of what opening an input is refused for; inputs are counted from 0.
+pub(crate) fn opening_stop(file: u32, refusal: Refusal<OpenFault>) -> Stop
+    ensures { result ≡ stop_of_opening file refusal }
+{
+    match refusal {
+        Refusal::Fault(OpenFault::Read) => Stop::Read,
+        Refusal::Fault(OpenFault::Head(fault)) => Stop::File {
+            file,
+            fault: FileFault::Head(fault),
+        },
+        Refusal::NoMemory => Stop::NoMemory,
+    }
+}
+
 impl From<NoMemory> for Stop {
     ghost from_gives = { λ _ e. e ≡ stop.NoMemory };
 
@@ -121,22 +135,6 @@ impl From<Refusal<WordFault>> for Stop {
     fn from(refusal: Refusal<WordFault>) -> Stop {
         match refusal {
             Refusal::Fault(WordFault { position }) => Stop::Words { position },
-            Refusal::NoMemory => Stop::NoMemory,
-        }
-    }
-}
-
-// The file is the first of the command.
-impl From<Refusal<OpenFault>> for Stop {
-    ghost from_gives = { λ refusal e. e ≡ stop_of_opening refusal };
-
-    fn from(refusal: Refusal<OpenFault>) -> Stop {
-        match refusal {
-            Refusal::Fault(OpenFault::Read) => Stop::Read,
-            Refusal::Fault(OpenFault::Head(fault)) => Stop::File {
-                file: 0,
-                fault: FileFault::Head(fault),
-            },
             Refusal::NoMemory => Stop::NoMemory,
         }
     }

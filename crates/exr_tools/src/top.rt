@@ -1,18 +1,19 @@
 //! The top call: a command from its words to its printed line.
 
-ghost use Rattle.std.specs.Prelude.{◌≡◌, ◌≢◌, ◌⊎◌, ◌<◌, ◌^◌, ℕ, IsTrue, IfErr, OnOk, length, Ok};
+ghost use Rattle.std.specs.Prelude.{◌≡◌, ◌⊎◌, ◌<◌, ◌^◌, ℕ, IsTrue, IfErr, OnOk, length, Ok};
 ghost use Rattle.exr_outside.specs.Count.{Rose};
 ghost use Rattle.exr_words.specs.Command.{Command};
 ghost use Rattle.exr_words.specs.Words.{texts_of, command_of, fault_at};
 ghost use Rattle.exr_tools.specs.declared.stop.Stop.{Stop as AnyStop};
-ghost use Rattle.exr_tools.specs.Run.{Obeys, IsDue, IsSound, HasReason, OwesRise, StopsOr, IsBeforeWriting, ByCommand, Opens, Creates, Keeps};
+ghost use Rattle.exr_tools.specs.Output.{IsUntouched, Leaves};
+ghost use Rattle.exr_tools.specs.Run.{Obeys, Gives, IsDue, IsSound, HasReason, OwesRise, StopsOr, ByCommand, Opens, Creates, Keeps};
+ghost use Rattle.exr_tools.specs.Scene.{told_of, scene_of};
 
 use crate::extract::{Extraction, extract};
 use crate::header::header;
 use crate::stop::Stop;
 use exr_outside::{Files, Gate, Printer, World};
-use exr_request::Asked;
-use exr_words::{Arrangement, Order, read_words};
+use exr_words::{Order, read_words};
 use std::alloc::Global;
 use std::thread::Threads;
 
@@ -22,7 +23,7 @@ use std::thread::Threads;
 /// Each file that is opened or created is given back before the call returns. Nothing is printed before all else
 /// succeeded. `extract` passes the gate before and after it reads each chunk; it works on the calling thread so far.
 pub fn run<R: Threads + Sync, W: World, F: Files<W>, O: Printer, G: Gate>(
-    _rt: &R,
+    rt: &R,
     alloc: Global,
     words: &[String],
     files: &mut F,
@@ -31,11 +32,18 @@ pub fn run<R: Threads + Sync, W: World, F: Files<W>, O: Printer, G: Gate>(
 ) -> Result<(), Stop>
     requires { length words.now < 2 ^ 32 }
 
-    // Where the answer is Ok, the words have a command and it was done: for `extract` just the buffer was written whose
-    // samples the file has, and just its line was printed; for `header` just the text of the file's head was printed.
-    ensures obeys { OnOk result (Obeys W.bytes_of (IsTrue F.In.means.tells)
-        (IsTrue F.means.tells) (IsTrue F.Out.means.tells) (IsTrue O.means.tells) (texts_of words.now)
-        (F.means.kept files.old) (F.means.kept files.new) (O.means.holds out.old) (O.means.holds out.new)) }
+    // Where the answer is Ok, the words have a command, and what it gives was done: for `extract` just the buffer was written
+    // whose samples the file has, and just its line was printed; for `header` just the text of the file's head was printed.
+    ensures obeys { OnOk result (Obeys (told_of F.In.means F.means F.Out.means O.means) W.bytes_of (texts_of words.now)
+        (scene_of F.means O.means files.old out.old) (scene_of F.means O.means files.new out.new)) }
+
+    // Else nothing was created, kept or printed, unless the command gives something: then its file may have been begun, and
+    // after it its text, where printing failed.
+    ensures left { IfErr result (λ stop. ByCommand (texts_of words.now)
+        (λ command. Leaves stop (told_of F.In.means F.means F.Out.means O.means) (Gives command W.bytes_of)
+        (scene_of F.means O.means files.old out.old) (scene_of F.means O.means files.new out.new))
+        (IsUntouched (told_of F.In.means F.means F.Out.means O.means)
+        (scene_of F.means O.means files.old out.old) (scene_of F.means O.means files.new out.new))) }
 
     // A faulty list of words is refused at its position, want of memory apart, and each other stop has its reason.
     ensures words { (position : ℕ) → command_of (texts_of words.now) ≡ fault_at position
@@ -71,40 +79,17 @@ pub fn run<R: Threads + Sync, W: World, F: Files<W>, O: Printer, G: Gate>(
     ensures kept { IsTrue F.means.tells → ByCommand (texts_of words.now)
         (λ command. Keeps command (F.means.kept files.old) (F.means.kept files.new))
         (F.means.kept files.new ≡ F.means.kept files.old) }
-
-    // Nothing is created before the buffer is whole, and nothing is printed by a call that stops elsewhere.
-    ensures uncreated { IsTrue F.means.tells → IfErr result (λ stop. IsBeforeWriting stop
-        → (F.means.created files.new ≡ F.means.created files.old) × (F.means.kept files.new ≡ F.means.kept files.old)) }
-    ensures quiet { IsTrue O.means.tells
-        → IfErr result (λ stop. stop ≢ Stop.Write → O.means.holds out.new ≡ O.means.holds out.old) }
 {
     match read_words(alloc, words)? {
-        Order::Header { inputs } => header::<W, F, O>(alloc, files, out, inputs.first()),
+        Order::Header { inputs } => header::<W, F, O>(alloc, files, out, inputs.first(), 0),
         Order::Extract {
             inputs,
             output,
-            part,
-            window,
-            layout,
-            channels,
-            pad,
-            fill,
-            byte,
-            workers,
+            choices,
         } => {
-            let extraction = Extraction {
-                asked: Asked {
-                    part: part.unwrap_or(0),
-                    window,
-                    layout: layout.unwrap_or(Arrangement::Planar),
-                    channels,
-                    pad: pad.unwrap_or(0),
-                    fill: fill.unwrap_or(0),
-                },
-                byte: byte.unwrap_or(0),
-                workers: workers.unwrap_or(1),
-            };
-            extract::<W, F, O, G>(
+            let extraction = Extraction::new(0, choices);
+            extract::<R, W, F, O, G>(
+                rt,
                 alloc,
                 files,
                 out,

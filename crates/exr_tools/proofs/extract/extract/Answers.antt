@@ -1,16 +1,22 @@
--- What was extracted, and the line that was printed says its size.
-use Rattle.std.proofs.Common.{◌++◌, ap, ◌∙◌}
-use Rattle.exr_tools.specs.Texts.{extract_line}
-use Rattle.exr_tools.proofs.Oks.{on_ok}
+-- The buffer that is given is what was extracted.
+use Rattle.std.proofs.Common.{ap, refl}
+use Rattle.exr_tools.specs.Output.{buffer_under}
+use Rattle.exr_tools.specs.Scene.{scene_of}
+use Rattle.exr_tools.proofs.Left.{does_behind, leaves_behind}
 use Rattle.exr_tools.proofs.extract.extract.Goals as goal
 
-pub returns-clause-writes : goal.returns-clause-writes
-returns-clause-writes g c = λ told.
-    let w = c.in_ok-count.ensures.written told in
-    let line = c.as_bytes.ensures.value ∙ c.in_ok-line.ensures.ok ∙ ap extract_line w.2 in
-    on_ok c.print.result _ _ _ (λ printed. record {
-      buffer = w.0;
-      extracted = w.1;
-      written = λ tell. w.3 tell.0 tell.1;
-      printed = λ tell. printed tell ∙ ap (λ x. g.O.Printer.means.holds c.args.out.now ++ x) line;
-    }) c.print.ensures.printed
+pub returns-clause-done : goal.returns-clause-done
+returns-clause-done g c =
+    let file = c.file_buffer.ensures in
+    does_behind c.deliver.result _ _ (buffer_under c.args.output.now c.deref.result.now) _ (scene_of g.F.Files.means g.O.Printer.means c.file_buffer.new.files c.args.out.now) _
+    (record { created = file.created; kept = file.kept; printed = refl; faults = refl })
+    (λ told. record { buffer = c.in_ok-buffer.buffer.items; extracted = c.in_ok-buffer.ensures.buffer told; is = ap (buffer_under c.args.output.now) c.deref.ensures.value })
+    c.deliver.ensures.done
+
+pub returns-clause-left : goal.returns-clause-left
+returns-clause-left g c =
+    let file = c.file_buffer.ensures in
+    leaves_behind c.deliver.result _ _ (buffer_under c.args.output.now c.deref.result.now) _ (scene_of g.F.Files.means g.O.Printer.means c.file_buffer.new.files c.args.out.now) _
+    (record { created = file.created; kept = file.kept; printed = refl; faults = refl })
+    (λ told. record { buffer = c.in_ok-buffer.buffer.items; extracted = c.in_ok-buffer.ensures.buffer told; is = ap (buffer_under c.args.output.now) c.deref.ensures.value })
+    c.deliver.ensures.left
