@@ -2,7 +2,11 @@
 #![tactic(auto)]
 
 mod about;
+mod faults;
+#[cfg(test)]
+mod tests;
 
+use about::Asked;
 use exr_outside::{OutSink, PlainGate, Printer, RealFiles, RealWorld, append_all};
 use exr_tools::{Stop, run, stop_line};
 use std::env::Env;
@@ -29,9 +33,9 @@ fn program<R: AllocGlobal + Env + Files<File = File> + Print + Threads + Sync>(
     let words = words_of(rt)?;
     let mut out = OutSink::new(rt);
     if let [word] = words.as_slice()
-        && let Some(text) = about::text(word.as_str())
+        && let Some(asked) = Asked::of(word.as_str())
     {
-        return append_all(&mut out, text.as_bytes()).map_err(|_| Stop::Write);
+        return print(&mut out, asked.text());
     }
     if words.len() > u32::MAX as usize {
         return Err(Stop::Words { position: u32::MAX });
@@ -40,7 +44,17 @@ fn program<R: AllocGlobal + Env + Files<File = File> + Print + Threads + Sync>(
     run::<_, RealWorld, _, _, _>(rt, rt.alloc(), &words, &mut files, &mut out, &PlainGate)
 }
 
-/// The words behind the program's name. Where the system's arguments are no text, no word can be told from another.
+/// Prints the pieces of a text one after another.
+fn print<P: Printer>(out: &mut P, pieces: &[&str]) -> Result<(), Stop> {
+    for piece in pieces {
+        if append_all(out, piece.as_bytes()).is_err() {
+            return Err(Stop::Write);
+        }
+    }
+    Ok(())
+}
+
+/// The words after the program's name. Where the system's arguments are no text, no word can be told from another.
 fn words_of<R: AllocGlobal + Env>(rt: &R) -> Result<Vec<String>, Stop> {
     let mut words = Vec::new(rt.alloc());
     let args = match env::args(rt) {
@@ -54,7 +68,7 @@ fn words_of<R: AllocGlobal + Env>(rt: &R) -> Result<Vec<String>, Stop> {
     Ok(words)
 }
 
-/// Says on standard error why the program stopped. Where that fails too, the status alone tells.
+/// Says on standard error why the program stopped. Where that fails too, the status alone says it.
 fn report<R: AllocGlobal + Eprint>(rt: &R, stop: &Stop) {
     if let Ok(line) = stop_line(rt.alloc(), stop)
         && let Ok(text) = str::from_utf8(&line)

@@ -1,9 +1,9 @@
-//! The checksum of what a kernel gave, turn by turn. It costs next to nothing beside a kernel, and needs each result.
+//! The checksum of what a kernel gave, repeat by repeat. It costs next to nothing beside a kernel, and needs each result.
 
 ghost use Rattle.std.specs.Prelude.{◌≡◌, fold};
 ghost use Rattle.exr_bench.specs.Checksum.{with_value, with_turn};
 
-/// Adds what a turn gives: one of its bytes, and in the last turn all of them.
+/// Adds what one repeat gave: one of its bytes, and all of them after the last repeat.
 pub(crate) fn add_bytes(sum: u64, bytes: &[u8], turn: u32, is_last: bool) -> u64
     ensures { result ≡ with_turn sum bytes.now turn is_last }
 {
@@ -16,7 +16,7 @@ pub(crate) fn add_bytes(sum: u64, bytes: &[u8], turn: u32, is_last: bool) -> u64
     add(sum, u64::from(bytes[turn as usize % bytes.len()]))
 }
 
-/// Adds what a turn gives: one of its words, and in the last turn all of them.
+/// Adds what one repeat gave: one of its words, and all of them after the last repeat.
 pub(crate) fn add_words(sum: u64, words: &[u16], turn: u32, is_last: bool) -> u64
     ensures { result ≡ with_turn sum words.now turn is_last }
 {

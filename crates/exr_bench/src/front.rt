@@ -6,7 +6,7 @@ ghost use Rattle.std.specs.Int.{w32, from_le_bytes};
 use crate::stop::Stop;
 use std::alloc::{AllocError, Global};
 
-/// The number of four bytes, little endian, that bytes begin with, and the bytes behind it.
+/// The number of four bytes, little endian, that bytes begin with, and the bytes after it.
 pub(crate) fn number(bytes: &[u8]) -> Result<(usize, &[u8]), Stop>
     ensures value { IfOk result (λ found. found.0 ≡ from_le_bytes w32 (take 4 bytes.now)) }
     ensures behind { IfOk result (λ found. found.1.now ≡ drop 4 bytes.now) }

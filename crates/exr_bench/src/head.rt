@@ -5,7 +5,7 @@ use crate::stop::Stop;
 use exr_header::{FileHead, read_head};
 use std::alloc::Global;
 
-/// Reads a head so often.
+/// Reads a head `repeats` times.
 pub(crate) fn read(alloc: Global, bytes: &[u8], repeats: u32) -> Result<u64, Stop> {
     let mut sum = 0;
     for turn in 0..repeats {

@@ -5,7 +5,7 @@ use crate::front::{number, words_of};
 use crate::stop::Stop;
 use std::alloc::Global;
 
-/// Unpacks a block so often, behind the number of its words.
+/// Unpacks a block, which comes after the number of its words, `repeats` times.
 pub(crate) fn unpack(alloc: Global, bytes: &[u8], repeats: u32) -> Result<u64, Stop> {
     let (words, block) = number(bytes)?;
     if words == 0 || words > 1 << 25 {
@@ -19,7 +19,7 @@ pub(crate) fn unpack(alloc: Global, bytes: &[u8], repeats: u32) -> Result<u64, S
     Ok(sum)
 }
 
-/// Packs the words of a file so often.
+/// Packs the words of a file `repeats` times.
 pub(crate) fn pack(alloc: Global, bytes: &[u8], repeats: u32) -> Result<u64, Stop> {
     let words = words_of(alloc, bytes)?;
     if words.len() == 0 || words.len() > 1 << 25 {

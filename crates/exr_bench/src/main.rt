@@ -2,10 +2,12 @@
 //! time: `tools/bench.py` times it beside the same loops in C.
 #![tactic(auto)]
 
+mod b44;
 mod checksum;
 mod front;
 mod head;
 mod huffman;
+mod piz;
 mod rle;
 mod stop;
 #[cfg(test)]
@@ -50,7 +52,7 @@ fn program<R: AllocGlobal + Env + Files<File = File> + Print>(rt: &R) -> Result<
     }
 }
 
-/// The words behind the program's name.
+/// The words after the program's name.
 fn words_of<R: AllocGlobal + Env>(rt: &R) -> Result<Vec<String>, Stop> {
     let mut words = Vec::new(rt.alloc());
     let Ok(args) = env::args(rt) else {
@@ -64,9 +66,13 @@ fn words_of<R: AllocGlobal + Env>(rt: &R) -> Result<Vec<String>, Stop> {
     Ok(words)
 }
 
-/// The checksum of what a kernel gives in so many turns.
+/// The checksum of what a kernel gives, `repeats` times.
 fn sum_of(alloc: Global, kernel: &str, bytes: &[u8], repeats: u32) -> Result<u64, Stop> {
     match kernel {
+        "b44-pack" => b44::pack(alloc, bytes, false, repeats),
+        "b44-unpack" => b44::unpack(alloc, bytes, repeats),
+        "b44a-pack" => b44::pack(alloc, bytes, true, repeats),
+        "b44a-unpack" => b44::unpack(alloc, bytes, repeats),
         "rle-pack" => rle::pack(alloc, bytes, repeats),
         "rle-unpack" => rle::unpack(alloc, bytes, repeats),
         "wavelet-encode" => wavelet::step(alloc, bytes, Way::Encode, repeats),
@@ -74,6 +80,8 @@ fn sum_of(alloc: Global, kernel: &str, bytes: &[u8], repeats: u32) -> Result<u64
         "head-read" => head::read(alloc, bytes, repeats),
         "huffman-pack" => huffman::pack(alloc, bytes, repeats),
         "huffman-unpack" => huffman::unpack(alloc, bytes, repeats),
+        "piz-pack" => piz::pack(alloc, bytes, repeats),
+        "piz-unpack" => piz::unpack(alloc, bytes, repeats),
         _ => Err(Stop::Words),
     }
 }

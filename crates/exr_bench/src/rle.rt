@@ -5,7 +5,7 @@ use crate::front::number;
 use crate::stop::Stop;
 use std::alloc::Global;
 
-/// Packs raw bytes so often.
+/// Packs raw bytes `repeats` times.
 pub(crate) fn pack(alloc: Global, raw: &[u8], repeats: u32) -> Result<u64, Stop> {
     let mut sum = 0;
     for turn in 0..repeats {
@@ -15,7 +15,7 @@ pub(crate) fn pack(alloc: Global, raw: &[u8], repeats: u32) -> Result<u64, Stop>
     Ok(sum)
 }
 
-/// Unpacks packed data so often, behind the number of its raw bytes.
+/// Unpacks packed data, which comes after the number of its raw bytes, `repeats` times.
 pub(crate) fn unpack(alloc: Global, bytes: &[u8], repeats: u32) -> Result<u64, Stop> {
     let (raw, packed) = number(bytes)?;
     let mut sum = 0;

@@ -4,14 +4,19 @@ ghost use Rattle.std.specs.Prelude.{◌≡◌};
 ghost use Rattle.exr_bench.specs.declared.stop.Stop.TheVariants as stop;
 
 use exr_base::{NoMemory, Refusal};
-use std::alloc::AllocError;
+use std::alloc::{AllocError, AllocFailed};
 
 const USAGE: &str = "\
 exr_bench KERNEL FILE REPEATS
 
-Runs a kernel so often over the bytes of a file, and prints a checksum of what
-it gave. The kernels, and what the file has:
+Runs a kernel REPEATS times over the bytes of a file, and prints a checksum of
+what it gave. The kernels, and what the file has:
 
+  b44-pack         how many columns and lines there are, and raw bytes of four
+                   channels of halves
+  b44-unpack       the same numbers, and packed data
+  b44a-pack        as b44-pack
+  b44a-unpack      as b44-unpack
   rle-pack         raw bytes
   rle-unpack       how many raw bytes there are, and packed data
   wavelet-encode   how many columns and lines there are and the greatest word,
@@ -19,6 +24,9 @@ it gave. The kernels, and what the file has:
   wavelet-decode   the same, of words that were encoded
   huffman-pack     words
   huffman-unpack   how many words there are, and a Huffman block
+  piz-pack         how many columns, lines and channels there are, the bytes of a
+                   sample, 2 or 4, and raw data
+  piz-unpack       the same, of packed data
   head-read        a file, or the head of one
 
 A number takes four bytes and a word two, both little endian.
@@ -75,6 +83,14 @@ impl From<AllocError> for Stop {
     ghost from_gives = { λ _ e. e ≡ stop.NoMemory };
 
     fn from(_error: AllocError) -> Stop {
+        Stop::NoMemory
+    }
+}
+
+impl<T: Drop> From<AllocFailed<T>> for Stop {
+    ghost from_gives = { λ _ e. e ≡ stop.NoMemory };
+
+    fn from(_error: AllocFailed<T>) -> Stop {
         Stop::NoMemory
     }
 }

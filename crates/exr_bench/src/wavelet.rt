@@ -44,7 +44,7 @@ fn plane_of(alloc: Global, bytes: &[u8]) -> Result<Plane, Stop>
     })
 }
 
-/// Encodes or decodes a plane so often, each time from the file's words.
+/// Encodes or decodes a plane `repeats` times, each time from the file's words.
 pub(crate) fn step(alloc: Global, bytes: &[u8], way: Way, repeats: u32) -> Result<u64, Stop> {
     let plane = plane_of(alloc, bytes)?;
     let mut words = vec![in alloc; 0u16; plane.words.len()]?;
