@@ -1,0 +1,3 @@
+//! Tables of cases, a file for each crate.
+
+mod base;
