@@ -9,12 +9,15 @@ with a word only the kernels whose name begins with it.
 import heapq, math, os, random, struct, subprocess, sys, tempfile
 from collections import Counter
 
+import exr_file
+
 ROUNDS = int(sys.argv[1]) if len(sys.argv) > 1 else 15
 WORD = sys.argv[2] if len(sys.argv) > 2 else ""
 PROGRAM = os.path.abspath("crates/exr_bench/out/exr_bench")
 TWINS = os.path.abspath("tools/bench")
 WIDE, HIGH, CHANNELS = 1920, 32, 4
 SECONDS = 0.2  # about how long one run takes
+REUSE = {**os.environ, "GLIBC_TUNABLES": "glibc.malloc.trim_threshold=268435456:glibc.malloc.mmap_threshold=33554432"}
 HEADS = 12  # how often a head is read in one run, the same for each, so that twice the attributes can be compared
 ALIKE = (b"aiaaogaaaagadk", b"paoeaacedgalaa")  # these make the same number in exr_attributes (seconds.rt)
 
@@ -85,6 +88,37 @@ def rle_packed(raw):
     return bytes(out)
 
 
+def b44_cell(halves, flat):
+    """The bytes of a cell of sixteen halves."""
+    numbers = [0x8000 if h & 0x7c00 == 0x7c00 else ~h & 0xffff if h & 0x8000 else h | 0x8000 for h in halves]
+    most, shift = max(numbers), 0
+    while True:
+        unit = 1 << shift
+        depths = [(n + (n % 2 if 2 * r == unit else 2 * r > unit)) for n, r in (divmod(most - t, unit) for t in numbers)]
+        rows = [(k, k + 4) for k in (0, 4, 8)] + [(4 * y + x, 4 * y + x + 1) for x in range(3) for y in range(4)]
+        sixes = [depths[a] - depths[b] + 32 for a, b in rows]
+        if all(0 <= six < 64 for six in sixes):
+            break
+        shift += 1
+    if flat and all(six == 32 for six in sixes):
+        return numbers[0].to_bytes(2, "big") + b"\xfc"
+    bits = (most - (depths[0] << shift)) % 65536
+    for six in [shift] + sixes:
+        bits = bits << 6 | six
+    return bits.to_bytes(14, "big")
+
+
+def b44_packed(raw, flat):
+    """The packed data of lines of four HALF channels."""
+    words, out = struct.unpack(f"<{len(raw) // 2}H", raw), bytearray()
+    for channel in range(CHANNELS):
+        for y in range(0, HIGH, 4):
+            for x in range(0, WIDE, 4):
+                rows = [((y + k) * CHANNELS + channel) * WIDE + x for k in range(4)]
+                out += b44_cell([half for row in rows for half in words[row:row + 4]], flat)
+    return bytes(out)
+
+
 def huffman_lengths(counts):
     """The lengths of the codes by merging the two least weights."""
     heap = [(count, symbol, (symbol,)) for symbol, count in counts.items()]
@@ -148,19 +182,45 @@ def huffman_block(words):
     return struct.pack("<5I", least, run, len(table), bits, 0) + table + bytes_of_bits(data)
 
 
-def attribute(name, kind, value):
-    return name + b"\0" + kind + b"\0" + struct.pack("<i", len(value)) + value
+def wavelets(words, wide, high, count, step):
+    """The wavelets of the planes of some channels, whose samples have so many words each."""
+    out, size = [], wide * high * step
+    small = max(words) < 16384
+    for first in range(0, count * size, size):
+        planes = [wavelet(words[first + p : first + size : step], wide, high, small) for p in range(step)]
+        out += [word for sample in zip(*planes) for word in sample]
+    return out
+
+
+def piz_packed(raw, wide, high, count, sample):
+    """The packed data of the raw data of channels that all have samples of so many bytes."""
+    row = wide * sample
+    planes = b"".join(raw[(y * count + c) * row :][:row] for c in range(count) for y in range(high))
+    words = struct.unpack(f"<{len(planes) // 2}H", planes)
+    values = sorted({0, *words})
+    ranks = {value: rank for rank, value in enumerate(values)}
+    bits = bytearray(8192)
+    for value in values[1:]:
+        bits[value // 8] |= 1 << value % 8
+    used = [index for index in range(8192) if bits[index]] or [8191, 0]
+    block = huffman_block(wavelets([ranks[word] for word in words], wide, high, count, sample // 2))
+    return struct.pack("<2H", used[0], used[-1]) + bits[used[0] : used[-1] + 1] + struct.pack("<I", len(block)) + block
+
+
+def rendered_lines(wide, high, sample):
+    """Lines of four channels of a smooth picture with a little grain, HALF or FLOAT."""
+    out, form = bytearray(), "e" if sample == 2 else "f"
+    for y in range(high):
+        for channel in range(CHANNELS):
+            grain = random.Random(channel * high + y)
+            out += struct.pack(f"<{wide}{form}", *(smooth(x, y, channel) + grain.randrange(8) / 4096 for x in range(wide)))
+    return bytes(out)
 
 
 def head(names):
     """A head of one pixel of one channel, with attributes of four bytes under these names before the others."""
-    one, box = struct.pack("<f", 1.0), bytes(16)
-    channels = b"Y\0" + struct.pack("<4i", 1, 0, 1, 1) + b"\0"
-    return (b"\x76\x2f\x31\x01\x02\0\0\0" + b"".join(attribute(name, b"float", one) for name in names)
-            + attribute(b"channels", b"chlist", channels) + attribute(b"compression", b"compression", b"\0")
-            + attribute(b"dataWindow", b"box2i", box) + attribute(b"displayWindow", b"box2i", box)
-            + attribute(b"lineOrder", b"lineOrder", b"\0") + attribute(b"pixelAspectRatio", b"float", one)
-            + attribute(b"screenWindowCenter", b"v2f", bytes(8)) + attribute(b"screenWindowWidth", b"float", one) + b"\0")
+    more = b"".join(exr_file.attribute(name, b"float", exr_file.ONE) for name in names)
+    return exr_file.head(more + exr_file.picture([exr_file.channel(b"Y")], (0, 0, 0, 0)))
 
 
 def number_of(name):
@@ -185,6 +245,12 @@ def cases():
         yield "rle-unpack", name, struct.pack("<I", len(raw)) + rle_packed(raw), len(raw)
     for name, raw in raws:
         yield "rle-pack", name, raw, len(raw)
+    sides = struct.pack("<2I", WIDE, HIGH)
+    for kernel, flat in (("b44", False), ("b44a", True)):
+        for name, raw in raws:
+            yield kernel + "-unpack", name, sides + b44_packed(raw, flat), len(raw)
+        for name, raw in raws:
+            yield kernel + "-pack", name, sides + raw, len(raw)
     for kernel in ("wavelet-encode", "wavelet-decode"):
         for name, most in (("words below 16384", 16383), ("any words", 65535)):
             words = plane(most, 1)
@@ -192,13 +258,21 @@ def cases():
                 words = wavelet(words, WIDE, HIGH, most < 16384)
             yield kernel, name, struct.pack(f"<3I{len(words)}H", WIDE, HIGH, most, *words), 2 * len(words)
     planes = [word for c in range(CHANNELS) for word in wavelet(plane(16383, c), WIDE, HIGH, True)]
-    blocks = (("a picture behind the wavelet", planes),
+    blocks = (("a picture after the wavelet", planes),
               ("noise", [noise.randrange(65536) for _ in planes]), ("one value", [7] * len(planes)),
               ("4,096 words of a picture", wavelet(plane(16383, 1, 64, 64), 64, 64, True)))
     for name, words in blocks:
         yield "huffman-unpack", name, struct.pack("<I", len(words)) + huffman_block(words), 2 * len(words)
     for name, words in blocks:
         yield "huffman-pack", name, struct.pack(f"<{len(words)}H", *words), 2 * len(words)
+    pizzes = [(name, WIDE, HIGH, 2, raw) for name, raw in raws[1:]]
+    pizzes.insert(0, ("a picture with grain", WIDE, HIGH, 2, rendered_lines(WIDE, HIGH, 2)))
+    pizzes.append(("a tile of 64 by 64", 64, 64, 2, rendered_lines(64, 64, 2)))
+    pizzes.append(("FLOAT channels", 480, HIGH, 4, rendered_lines(480, HIGH, 4)))
+    for kernel in ("piz-unpack", "piz-pack"):
+        for name, wide, high, sample, raw in pizzes:
+            data = raw if kernel == "piz-pack" else piz_packed(raw, wide, high, CHANNELS, sample)
+            yield kernel, name, struct.pack("<4I", wide, high, CHANNELS, sample) + data, len(raw)
     for count in (10000, 20000, 40000):
         data = head([b"attribute%07d" % k for k in range(count)])
         yield "head-read", f"{count:,} attributes", data, len(data)
@@ -219,8 +293,9 @@ def cases():
 # ---- runs
 
 def timed(words):
-    """The processor time of a run and what it prints."""
-    child = subprocess.Popen(words, stdout=subprocess.PIPE)
+    """The processor time of a run and what it prints. Blocks of B44 are measured where memory is reused from turn to turn, as
+    it is when many blocks are unpacked: fresh pages would cost more than the work."""
+    child = subprocess.Popen(words, stdout=subprocess.PIPE, env=REUSE if words[1].startswith("b44") else None)
     printed = child.stdout.read()
     _, status, usage = os.wait4(child.pid, 0)
     child.returncode = os.waitstatus_to_exitcode(status)
@@ -249,7 +324,7 @@ def main():
     halves = {}
     with tempfile.TemporaryDirectory() as folder:
         twins = {}
-        for name in ("rle", "wavelet", "huffman", "head"):
+        for name in ("b44", "rle", "wavelet", "huffman", "piz", "head"):
             twins[name] = os.path.join(folder, name)
             subprocess.run(["gcc", "-O2", "-o", twins[name], os.path.join(TWINS, name + ".c")], check=True)
         source = os.path.join(folder, "input")
@@ -258,7 +333,7 @@ def main():
                 continue
             with open(source, "wb") as file:
                 file.write(data)
-            programs = [PROGRAM, twins[kernel.split("-")[0]]]
+            programs = [PROGRAM, twins[kernel.split("-")[0].replace("b44a", "b44")]]
             is_head = kernel == "head-read"
             repeats = HEADS if is_head else max(1, int(10 * SECONDS / timed([programs[1], kernel, source, "10"])[0]))
             start = least_times(programs, [kernel, source, "0"])

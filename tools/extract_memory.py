@@ -4,51 +4,42 @@ program. Prints the table of docs/PERFORMANCE.md, and stops where a peak passes 
 
 Use: tools/extract_memory.py, at the top of the repository, after `rt ci exr` has built the program.
 """
-import os, struct, subprocess, sys, tempfile
+import sys
 
-PROGRAM = os.path.abspath("crates/exr/out/exr")
-LAUNCHER = os.path.abspath("tools/twins/peak.c")
-
-
-def attribute(name, kind, value):
-    return name + b"\0" + kind + b"\0" + struct.pack("<i", len(value)) + value
+import exr_file
+from peak import measured
 
 
-def channels(samplings):
-    """HALF channels with these y samplings: 18 bytes each, 19 from the eleventh on."""
+def attributes(width, height, samplings, method=0):
+    """The attributes of a picture of scan lines, of HALF channels with these y samplings: 18 bytes each in the channel list,
+    19 from the eleventh on."""
     names = sorted(str(i).encode() for i in range(len(samplings)))
-    return b"".join(name + b"\0" + struct.pack("<4i", 1, 0, 1, ys) for name, ys in zip(names, samplings)) + b"\0"
-
-
-def attributes(width, height, samplings, method):
-    """The attributes that each picture of scan lines has."""
-    one, box = struct.pack("<f", 1.0), struct.pack("<4i", 0, 0, width - 1, height - 1)
-    return (attribute(b"channels", b"chlist", channels(samplings))
-            + attribute(b"compression", b"compression", bytes([method])) + attribute(b"dataWindow", b"box2i", box)
-            + attribute(b"displayWindow", b"box2i", box) + attribute(b"lineOrder", b"lineOrder", b"\0")
-            + attribute(b"pixelAspectRatio", b"float", one) + attribute(b"screenWindowCenter", b"v2f", bytes(8))
-            + attribute(b"screenWindowWidth", b"float", one))
+    listed = [exr_file.channel(name, sampling=(1, ys)) for name, ys in zip(names, samplings)]
+    return exr_file.picture(listed, (0, 0, width - 1, height - 1), method)
 
 
 def head(width, height, samplings=(1,)):
     """The head of a picture of scan lines without compression: 277 bytes with one channel."""
-    return b"\x76\x2f\x31\x01\x02\0\0\0" + attributes(width, height, samplings, 0) + b"\0"
+    return exr_file.head(attributes(width, height, samplings))
 
 
 def blocks(count, width, height, samplings):
-    """The head of a file of so many parts in blocks of 32 lines, under PIZ."""
-    front = b"\x76\x2f\x31\x01\x02\x10\0\0"
-    for part in range(count):
-        front += (attributes(width, height, samplings, 4) + attribute(b"name", b"string", str(part).encode())
-                  + attribute(b"type", b"string", b"scanlineimage") + attribute(b"chunkCount", b"int", struct.pack("<i", -(-height // 32))) + b"\0")
-    return front + b"\0"
+    """The head of a file of `count` parts in blocks of 32 lines, under PIZ."""
+    one = attributes(width, height, samplings, 4)
+    return exr_file.parts_head([exr_file.part(one, str(number).encode(), -(-height // 32)) for number in range(count)])
 
 
 def first_chunk(width, height):
     """The head with a table of which only the first entry is written, and the first chunk."""
     front = head(width, height)
-    table = struct.pack("<Q", len(front) + 8 * height) + bytes(8 * (height - 1))
-    return front + table + struct.pack("<iI", 0, 2 * width) + bytes(2 * width)
+    table = exr_file.offsets(len(front) + 8 * height, [0]) + bytes(8 * (height - 1))
+    return front + table + exr_file.chunk(exr_file.line_fields(0), bytes(2 * width))
+
+
+def ten_bytes(method, lines):
+    """A picture of one chunk of `lines` lines whose ten bytes of data claim 2^26 raw ones."""
+    front = exr_file.head(attributes(1 << 20, lines, (1,) * (32 // lines), method))
+    return exr_file.file_of(front, [exr_file.chunk(exr_file.line_fields(0), bytes(10))])
 
 
 def cases():
@@ -59,22 +50,17 @@ def cases():
     divisors = [n for n in range(1, 720721) if 720720 % n == 0]
     yield f"1 by 720,720 pixels claimed, of {len(divisors)} y samplings", head(1, 720720, divisors)
     yield "46 such parts in blocks of 32 lines", blocks(46, 1, 720720, divisors)
+    for name, method, lines in (("RLE", 1, 1), ("PIZ", 4, 32), ("B44", 6, 32), ("B44A", 7, 32)):
+        yield f"a chunk of ten bytes that claims 2^26 raw ones, {name}", ten_bytes(method, lines)
 
 
 def main():
     print("| file | status | file, bytes | peak, MiB | time, ms |")
     print("|---|---|---|---|---|")
-    with tempfile.TemporaryDirectory(dir="/dev/shm") as folder:
-        source, launcher = os.path.join(folder, "a.exr"), os.path.join(folder, "peak")
-        subprocess.run(["gcc", "-O2", "-o", launcher, LAUNCHER], check=True)
-        for name, data in cases():
-            with open(source, "wb") as file:
-                file.write(data)
-            words = [launcher, PROGRAM, "extract", "in=" + source, "out=" + os.path.join(folder, "b")]
-            status, peak, time = map(int, subprocess.run(words, check=True, stdout=subprocess.PIPE).stdout.split())
-            print(f"| {name} | {status} | {len(data):,} | {peak / 1024:.1f} | {time / 1000:.1f} |", flush=True)
-            if status == 0 or peak > 32 * 1024:
-                sys.exit("not refused, or with too much memory")
+    for name, data, status, peak, time in measured(["extract", "in={in}", "out={out}"], cases()):
+        print(f"| {name} | {status} | {len(data):,} | {peak / 1024:.1f} | {time / 1000:.1f} |", flush=True)
+        if status == 0 or peak > 32 * 1024:
+            sys.exit("not refused, or with too much memory")
 
 
 if __name__ == "__main__":

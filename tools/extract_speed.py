@@ -1,53 +1,54 @@
 #!/usr/bin/env python3
-"""Measures `exr extract` on a picture of 4096 by 2048 pixels with four HALF channels (64 MiB of samples), as scan lines and
-in tiles of 64 by 64, in planes, lines and pixels and of a quarter of its window, on a tmpfs, beside a C twin of the same reads,
-copies and writes (gcc -O2: rows by memcpy, pixels by two bytes a sample) and beside `cp` of the file, in one run. Prints the table of docs/PERFORMANCE.md: the ratio of the least times, and the peak memory of one more run.
+"""Measures `exr extract` on a tmpfs, beside a C twin of the same reads, unpacking, copies and writes (gcc -O2: rows by memcpy,
+pixels by two bytes a sample) and beside `cp` of the file, in one run: a picture of 4096 by 2048 pixels with four HALF channels
+(64 MiB of samples), as scan lines and in tiles of 64 by 64, in planes, lines and pixels and of a quarter of its window; and one
+of 1920 by 1080 without compression and under RLE, PIZ and B44. Prints the tables of docs/PERFORMANCE.md: the ratio of the least
+times, and the peak memory of one more run; for the methods also the ratio to the time without compression.
 
-Use: tools/extract_speed.py [ROUNDS], at the top of the repository, after `rt ci exr` has built the program.
+Use: tools/extract_speed.py [ROUNDS [WORD]], at the top of the repository, after `rt ci exr` has built the program; with a
+word only the pictures whose name begins with it.
 """
-import os, struct, subprocess, sys, tempfile, time
+import os, subprocess, sys, tempfile, time
+
+import exr_file
 
 ROUNDS = int(sys.argv[1]) if len(sys.argv) > 1 else 15
-WIDTH, HEIGHT, NAMES = 4096, 2048, ["A", "B", "G", "R"]
+WORD = sys.argv[2] if len(sys.argv) > 2 else ""
+NAMES = ["A", "B", "G", "R"]
+METHODS = {"no": 0, "rle": 1, "piz": 4, "b44": 6}
 PROGRAM = os.path.abspath("crates/exr/out/exr")
-TWIN = os.path.abspath("tools/twins/extract.c")
-LAUNCHER = os.path.abspath("tools/twins/peak.c")
+TWINS = {name: os.path.abspath(f"tools/twins/{name}.c") for name in ("extract", "picture", "peak")}
 
 
-def attribute(name, kind, value):
-    return name + b"\0" + kind + b"\0" + struct.pack("<i", len(value)) + value
+class Picture:
+    """A picture of four HALF channels: its name, its size, the side of its tiles, or 0 for scan lines, and its method."""
 
+    def __init__(self, name, width, height, tile=0, method="no"):
+        self.name, self.width, self.height, self.tile, self.method = name, width, height, tile, method
 
-def head(tile):
-    """The head of the picture; in tiles of a side, or in scan lines where that is 0."""
-    listed = b"".join(n.encode() + b"\0" + struct.pack("<iIii", 1, 0, 1, 1) for n in NAMES) + b"\0"
-    window = struct.pack("<4i", 0, 0, WIDTH - 1, HEIGHT - 1)
-    one = struct.pack("<f", 1.0)
-    tiles = attribute(b"tiles", b"tiledesc", struct.pack("<IIB", tile, tile, 0)) if tile else b""
-    return (b"\x76\x2f\x31\x01" + struct.pack("<I", 0x202 if tile else 2) + attribute(b"channels", b"chlist", listed)
-            + attribute(b"compression", b"compression", b"\0") + attribute(b"dataWindow", b"box2i", window)
-            + attribute(b"displayWindow", b"box2i", window) + attribute(b"lineOrder", b"lineOrder", b"\0")
-            + attribute(b"pixelAspectRatio", b"float", one) + attribute(b"screenWindowCenter", b"v2f", bytes(8))
-            + attribute(b"screenWindowWidth", b"float", one) + tiles + b"\0")
+    def head(self):
+        listed = [exr_file.channel(n.encode()) for n in NAMES]
+        window = (0, 0, self.width - 1, self.height - 1)
+        attributes = exr_file.picture(listed, window, method=METHODS[self.method], tile=self.tile)
+        return exr_file.head(attributes, exr_file.TILED if self.tile else 0)
 
-
-def make(name, tile):
-    """Writes the picture, and answers how many bytes its head has. Sides are whole tiles."""
-    front = head(tile)
-    if tile:
-        fields = [struct.pack("<4i", x, y, 0, 0) for y in range(HEIGHT // tile) for x in range(WIDTH // tile)]
-        size = 2 * tile * tile * len(NAMES)
-    else:
-        fields = [struct.pack("<i", y) for y in range(HEIGHT)]
-        size = 2 * WIDTH * len(NAMES)
-    each = len(fields[0]) + 4 + size
-    first = len(front) + 8 * len(fields)
-    with open(name, "wb") as file:
-        file.write(front)
-        file.write(b"".join(struct.pack("<Q", first + i * each) for i in range(len(fields))))
-        for place in fields:
-            file.write(place + struct.pack("<I", size) + os.urandom(64) * (size // 64))
-    return len(front)
+    def make(self, file, folder):
+        """Writes the picture: smooth lines with a little grain, or tiles of random bytes, whose sides are whole."""
+        if self.tile == 0:
+            head = os.path.join(folder, "head")
+            with open(head, "wb") as out:
+                out.write(self.head())
+            subprocess.run([os.path.join(folder, "picture"), file, head, str(self.width), str(self.height), self.method], check=True)
+            return
+        front = self.head()
+        fields = [exr_file.tile_fields(x, y) for y in range(self.height // self.tile) for x in range(self.width // self.tile)]
+        size = 2 * self.tile * self.tile * len(NAMES)
+        each = len(fields[0]) + 4 + size
+        with open(file, "wb") as out:
+            out.write(front)
+            out.write(exr_file.offsets(len(front) + 8 * len(fields), [each] * len(fields)))
+            for place in fields:
+                out.write(exr_file.chunk(place, os.urandom(64) * (size // 64)))
 
 
 def timed(words):
@@ -63,15 +64,21 @@ def peak_of(launcher, words):
     return peak / 1024
 
 
-def measure(folder, twin, launcher, shape, tile, rows):
-    """Measures a file, in each of the rows: what is asked, the layout, and the window."""
+def measure(folder, picture, rows, without=None):
+    """Measures a picture, in each of the rows: what is asked, the layout, and the part of the window. Answers the program's
+    least times; `without` has those of the same picture without compression."""
     source, buffer, twin_buffer, copy = (os.path.join(folder, n) for n in ("in.exr", "out.raw", "twin.raw", "copy"))
-    front = make(source, tile)
-    for name, layout, window in rows:
+    twin, launcher = (os.path.join(folder, n) for n in ("extract", "peak"))
+    picture.make(source, folder)
+    times = {}
+    for name, layout, part in rows:
+        w, h = picture.width, picture.height
+        window = (0, 0, w - 1, h - 1) if part == "whole" else (w // 4, h // 4, w * 3 // 4 - 1, h * 3 // 4 - 1)
         sides = [str(n) for n in window]
         kinds = {
             "exr extract": [PROGRAM, "extract", "in=" + source, "out=" + buffer, "layout=" + layout, "window=" + ",".join(sides)],
-            "C twin": [twin, source, twin_buffer, str(front), str(WIDTH), str(HEIGHT), str(len(NAMES)), str(tile), layout] + sides,
+            "C twin": [twin, source, twin_buffer, str(len(picture.head())), str(w), str(h), str(len(NAMES)), str(picture.tile),
+                       picture.method, layout] + sides,
             "cp": ["/bin/cp", source, copy],
         }
         least = {kind: float("inf") for kind in kinds}
@@ -80,20 +87,32 @@ def measure(folder, twin, launcher, shape, tile, rows):
                 least[kind] = min(least[kind], timed(words))
         if open(buffer, "rb").read() != open(twin_buffer, "rb").read():
             sys.exit("the two buffers differ")
+        times[name] = least["exr extract"]
         for kind, words in kinds.items():
             ratios = [f"{least[kind] / least[other]:.2f}" for other in ("C twin", "cp")]
-            print(f"| {shape}, {name} | {kind} | {' | '.join(ratios)} | {peak_of(launcher, words):.1f} |", flush=True)
+            more = f"{least[kind] / without[name]:.2f}" if without and kind == "exr extract" else ""
+            print(f"| {picture.name}, {name} | {kind} | {' | '.join(ratios)} | {more} | {peak_of(launcher, words):.1f} |", flush=True)
+    return times
 
 
-WHOLE = (0, 0, WIDTH - 1, HEIGHT - 1)
-QUARTER = (WIDTH // 4, HEIGHT // 4, WIDTH * 3 // 4 - 1, HEIGHT * 3 // 4 - 1)
-ROWS = [("planes", "planar", WHOLE), ("lines", "lines", WHOLE), ("pixels", "pixels", WHOLE), ("a quarter in planes", "planar", QUARTER)]
+def main():
+    whole = [("planes", "planar", "whole"), ("lines", "lines", "whole"), ("pixels", "pixels", "whole")]
+    quarter = [("a quarter in planes", "planar", "quarter")]
+    with tempfile.TemporaryDirectory(dir="/dev/shm") as folder:
+        for name, source in TWINS.items():
+            subprocess.run(["gcc", "-O2", "-o", os.path.join(folder, name), source, "-lm"], check=True)
+        print("| file | what | ratio to the C twin | ratio to `cp` | ratio to no compression | peak memory, MiB |")
+        print("|---|---|---|---|---|---|")
+        for picture in (Picture("scan lines", 4096, 2048), Picture("tiles of 64 by 64", 4096, 2048, tile=64)):
+            if picture.name.startswith(WORD):
+                measure(folder, picture, whole + quarter)
+        without = None
+        for method in METHODS:
+            picture = Picture(f"method {method}", 1920, 1080, method=method)
+            if picture.name.startswith(WORD):
+                times = measure(folder, picture, [whole[0], whole[2]], without)
+                without = without or times
 
-with tempfile.TemporaryDirectory(dir="/dev/shm") as folder:
-    twin, launcher = os.path.join(folder, "twin"), os.path.join(folder, "peak")
-    subprocess.run(["gcc", "-O2", "-o", twin, TWIN], check=True)
-    subprocess.run(["gcc", "-O2", "-o", launcher, LAUNCHER], check=True)
-    print("| file | what | ratio to the C twin | ratio to `cp` | peak memory, MiB |")
-    print("|---|---|---|---|---|")
-    measure(folder, twin, launcher, "scan lines", 0, ROWS)
-    measure(folder, twin, launcher, "tiles of 64 by 64", 64, ROWS)
+
+if __name__ == "__main__":
+    main()

@@ -4,25 +4,15 @@ bytes that is for each byte of the file, beyond 4 MiB. Prints the table of docs/
 
 Use: tools/head_memory.py, at the top of the repository, after `rt ci exr` has built the program.
 """
-import os, struct, subprocess, sys, tempfile
+import struct, sys
 
-PROGRAM = os.path.abspath("crates/exr/out/exr")
-LAUNCHER = os.path.abspath("tools/twins/peak.c")
-FRONT = b"\x76\x2f\x31\x01\x02\0\0\0"
-
-
-def attribute(name, kind, value):
-    return name + b"\0" + kind + b"\0" + struct.pack("<i", len(value)) + value
+import exr_file
+from peak import measured
 
 
-def needed(channels):
-    """The eight attributes, and the zero that closes the header."""
-    one, box = struct.pack("<f", 1.0), bytes(16)
-    listed = b"".join(n + b"\0" + struct.pack("<4i", 1, 0, 1, 1) for n in channels) + b"\0"
-    return (attribute(b"channels", b"chlist", listed) + attribute(b"compression", b"compression", b"\0")
-            + attribute(b"dataWindow", b"box2i", box) + attribute(b"displayWindow", b"box2i", box)
-            + attribute(b"lineOrder", b"lineOrder", b"\0") + attribute(b"pixelAspectRatio", b"float", one)
-            + attribute(b"screenWindowCenter", b"v2f", bytes(8)) + attribute(b"screenWindowWidth", b"float", one) + b"\0")
+def head(more, channels=(b"Y",)):
+    """The head of one pixel of HALF channels, with more attributes before its own."""
+    return exr_file.head(more + exr_file.picture([exr_file.channel(name) for name in channels], (0, 0, 0, 0)))
 
 
 def tiny(size):
@@ -34,37 +24,31 @@ def tiny(size):
             name, n = name + digits[n % 255:n % 255 + 1], n // 255
             if n == 0:
                 break
-        out.append(attribute(name, b"a", b""))
+        out.append(exr_file.attribute(name, b"a", b""))
         filled += len(out[-1])
         k += 1
     return b"".join(out)
 
 
 def cases():
-    yield "one channel", FRONT + needed([b"Y"])
-    yield "1,025 channels", FRONT + needed([b"%04d" % k for k in range(1025)])
-    yield "an attribute that claims 2^31 - 1 bytes", (FRONT + b"a\0string\0" + struct.pack("<i", 2**31 - 1)).ljust(300, b"a")
-    yield "tiny attributes, 1 MiB", FRONT + tiny(1 << 20) + needed([b"Y"])
-    yield "tiny attributes, almost 16 MiB", FRONT + tiny((1 << 24) - 2000) + needed([b"Y"])
-    yield "tiny attributes that never end, 17 MiB", FRONT + tiny(17 << 20)
-    yield "one attribute of almost 16 MiB", FRONT + attribute(b"a", b"string", bytes((1 << 24) - 2000)) + needed([b"Y"])
+    front = exr_file.front()
+    yield "one channel", head(b"")
+    yield "1,025 channels", head(b"", [b"%04d" % k for k in range(1025)])
+    yield "an attribute that claims 2^31 - 1 bytes", (front + b"a\0string\0" + struct.pack("<i", 2**31 - 1)).ljust(300, b"a")
+    yield "tiny attributes, 1 MiB", head(tiny(1 << 20))
+    yield "tiny attributes, almost 16 MiB", head(tiny((1 << 24) - 2000))
+    yield "tiny attributes that never end, 17 MiB", front + tiny(17 << 20)
+    yield "one attribute of almost 16 MiB", head(exr_file.attribute(b"a", b"string", bytes((1 << 24) - 2000)))
 
 
 def main():
     print("| head | status | file, bytes | peak, MiB | bytes a byte beyond 4 MiB |")
     print("|---|---|---|---|---|")
-    with tempfile.TemporaryDirectory(dir="/dev/shm") as folder:
-        source, launcher = os.path.join(folder, "a.exr"), os.path.join(folder, "peak")
-        subprocess.run(["gcc", "-O2", "-o", launcher, LAUNCHER], check=True)
-        for name, data in cases():
-            with open(source, "wb") as file:
-                file.write(data)
-            words = [launcher, PROGRAM, "header", "in=" + source]
-            status, peak, _ = map(int, subprocess.run(words, check=True, stdout=subprocess.PIPE).stdout.split())
-            ratio = max(0, 1024 * peak - (4 << 20)) / min(len(data), (1 << 24) + 1)
-            print(f"| {name} | {status} | {len(data):,} | {peak / 1024:.1f} | {ratio:.1f} |", flush=True)
-            if ratio > 64:
-                sys.exit("more than 64 bytes a byte")
+    for name, data, status, peak, _ in measured(["header", "in={in}"], cases()):
+        ratio = max(0, 1024 * peak - (4 << 20)) / min(len(data), (1 << 24) + 1)
+        print(f"| {name} | {status} | {len(data):,} | {peak / 1024:.1f} | {ratio:.1f} |", flush=True)
+        if ratio > 64:
+            sys.exit("more than 64 bytes a byte")
 
 
 if __name__ == "__main__":

@@ -2,8 +2,9 @@
    read of its fields and its data, unpacks the data where it is packed, puts its samples into the buffer, whole rows by
    memcpy and pixels by two bytes a sample, and writes the buffer.
    Use: extract IN OUT HEAD_BYTES WIDTH HEIGHT CHANNELS TILE METHOD LAYOUT X0 Y0 X1 Y1, where TILE is 0 for scan lines, METHOD
-   is no, rle or b44, LAYOUT is planar, lines or pixels, and the window is X0 Y0 to X1 Y1, both included */
+   is no, rle, piz or b44, LAYOUT is planar, lines or pixels, and the window is X0 Y0 to X1 Y1, both included */
 #include "../bench/b44.h"
+#include "../bench/piz.h"
 #include "../bench/rle.h"
 #include <fcntl.h>
 #include <unistd.h>
@@ -47,11 +48,11 @@ int main(int argc, char **argv)
         return 2;
     size_t head = strtoul(argv[3], 0, 10), width = strtoul(argv[4], 0, 10), height = strtoul(argv[5], 0, 10),
            channels = strtoul(argv[6], 0, 10), tile = strtoul(argv[7], 0, 10);
-    int is_rle = strcmp(argv[8], "rle") == 0, is_b44 = strcmp(argv[8], "b44") == 0;
+    int is_rle = strcmp(argv[8], "rle") == 0, is_piz = strcmp(argv[8], "piz") == 0, is_b44 = strcmp(argv[8], "b44") == 0;
     int is_planar = strcmp(argv[9], "planar") == 0, is_lines = strcmp(argv[9], "lines") == 0;
     size_t x0 = strtoul(argv[10], 0, 10), y0 = strtoul(argv[11], 0, 10), x1 = strtoul(argv[12], 0, 10) + 1,
            y1 = strtoul(argv[13], 0, 10) + 1, w = x1 - x0, h = y1 - y0;
-    size_t columns = tile ? tile : width, rows = tile ? tile : is_b44 ? 32 : 1, front = tile ? 20 : 8;
+    size_t columns = tile ? tile : width, rows = tile ? tile : is_b44 || is_piz ? 32 : 1, front = tile ? 20 : 8;
     size_t across = (width + columns - 1) / columns, down = (height + rows - 1) / rows;
     int in = open(argv[1], O_RDONLY);
     uint64_t *table = malloc(8 * across * down);
@@ -77,7 +78,12 @@ int main(int argc, char **argv)
             if (packed > size || packed > count - front)
                 return 3;
             const unsigned char *raw = chunk + front;
-            if (packed < size) {
+            unsigned char *own = 0;
+            if (packed < size && is_piz) {
+                raw = own = piz_unpack(raw, packed, (PizShape){cw, ch, channels, 2});
+                if (!own)
+                    return 3;
+            } else if (packed < size) {
                 if (is_rle ? !rle_unpack_into(raw, packed, bytes, unpacked, size)
                            : !is_b44 || !b44_unpack(raw, packed, cw, ch, channels, unpacked))
                     return 3;
@@ -99,6 +105,7 @@ int main(int argc, char **argv)
                         }
                     }
                 }
+            free(own);
         }
     int out = open(argv[2], O_WRONLY | O_CREAT | O_TRUNC, 0666);
     if (out < 0 || !write_all(out, buffer, 2 * channels * w * h) || close(out) != 0)

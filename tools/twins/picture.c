@@ -1,7 +1,8 @@
 /* Writes a picture of scan lines to be measured: a given head, the table of offsets and the chunks. Its four HALF channels
    are smooth with a little grain; the method packs them as tools/bench has it.
-   Use: picture OUT HEAD WIDTH HEIGHT METHOD, where HEAD is a file that holds the head, and METHOD is no, rle or b44 */
+   Use: picture OUT HEAD WIDTH HEIGHT METHOD, where HEAD is a file that holds the head, and METHOD is no, rle, piz or b44 */
 #include "../bench/b44.h"
+#include "../bench/piz.h"
 #include "../bench/rle.h"
 #include <math.h>
 #include <stdio.h>
@@ -18,8 +19,8 @@ static uint16_t sample(size_t x, size_t y, int channel) {
 int main(int argc, char **argv) {
     if (argc != 6) return 2;
     size_t width = strtoul(argv[3], 0, 10), height = strtoul(argv[4], 0, 10);
-    int is_rle = !strcmp(argv[5], "rle"), is_b44 = !strcmp(argv[5], "b44");
-    size_t lines = is_b44 ? 32 : 1, chunks = (height + lines - 1) / lines, most = 2 * CHANNELS * width * lines;
+    int is_rle = !strcmp(argv[5], "rle"), is_piz = !strcmp(argv[5], "piz"), is_b44 = !strcmp(argv[5], "b44");
+    size_t lines = is_b44 || is_piz ? 32 : 1, chunks = (height + lines - 1) / lines, most = 2 * CHANNELS * width * lines;
     static uint8_t head[1 << 16];
     FILE *in = fopen(argv[2], "rb"), *out = fopen(argv[1], "wb");
     if (!in || !out) return 4;
@@ -38,14 +39,15 @@ int main(int argc, char **argv) {
                 }
         const uint8_t *data = raw;
         size_t used = size;
-        uint8_t *runs = 0;
-        if (is_rle) data = runs = rle_pack(raw, size, &used);
+        uint8_t *own = 0;
+        if (is_rle) data = own = rle_pack(raw, size, &used);
+        if (is_piz) data = own = piz_pack(raw, (PizShape){width, count, CHANNELS, 2}, &used);
         if (is_b44) used = b44_pack(raw, width, count, CHANNELS, packed, 0), data = packed;
         if (used >= size) data = raw, used = size;
         uint32_t fields[2] = {(uint32_t)first, (uint32_t)used};
         fwrite(fields, 4, 2, out);
         fwrite(data, 1, used, out);
-        free(runs);
+        free(own);
         table[i] = at;
         at += 8 + used;
     }
