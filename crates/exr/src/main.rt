@@ -19,10 +19,7 @@ use std::{env, io, str};
 fn main(rt: HostRuntime) -> ExitCode {
     match program(&rt) {
         Ok(()) => ExitCode::SUCCESS,
-        Err(stop) => {
-            report(&rt, &stop);
-            ExitCode::from(stop.status())
-        }
+        Err(stop) => reported(&rt, &stop),
     }
 }
 
@@ -68,11 +65,13 @@ fn words_of<R: AllocGlobal + Env>(rt: &R) -> Result<Vec<String>, Stop> {
     Ok(words)
 }
 
-/// Says on standard error why the program stopped. Where that fails too, the status alone says it.
-fn report<R: AllocGlobal + Eprint>(rt: &R, stop: &Stop) {
+/// Says on standard error why the program stopped, and answers its status. Where the message cannot be written, the status
+/// alone says it.
+fn reported<R: AllocGlobal + Eprint>(rt: &R, stop: &Stop) -> ExitCode {
     if let Ok(line) = stop_line(rt.alloc(), stop)
         && let Ok(text) = str::from_utf8(&line)
     {
         let _ = rt.eprint(text);
     }
+    ExitCode::from(stop.status())
 }

@@ -1,12 +1,12 @@
 -- Quotients that round down count the multiples of a sampling.
-use Rattle.std.proofs.Common.{◌≡◌, ◌≢◌, ◌%◌, ◌/◌, ◌+◌, ◌-◌, ◌*◌, ◌^◌, ◌<◌, ◌≤◌, ℕ, zero, suc, ℤ, pos, negsuc, neg_ℤ, ◌+ℤ◌, ◌-ℤ◌, ◌≤ℤ◌, ◌<ℤ◌, nat_abs, true, false, cond, eqb, refl, sym, ap, subst, ◌∙◌, inl, inr, add-one, add-zero, arith}
+use Rattle.std.proofs.Common.{◌≡◌, ◌≢◌, ◌%◌, ◌/◌, ◌+◌, ◌-◌, ◌*◌, ◌^◌, ◌<◌, ◌≤◌, ℕ, zero, suc, ℤ, pos, negsuc, neg_ℤ, ◌+ℤ◌, ◌-ℤ◌, ◌≤ℤ◌, ◌<ℤ◌, nat_abs, Bool, true, false, cond, eqb, refl, sym, ap, ap₂, subst, ◌∙◌, inl, inr, add-one, add-zero, arith}
 use Rattle.std.specs.Int.{int_div_euclid, int_rem_euclid}
 use Rattle.std.proofs.lemmas.Nat.{div-add-mod', div-mul-add, mod-mul-add, mod_below}
 use Rattle.std.proofs.lemmas.Int.{ints}
 use Rattle.std.proofs.lemmas.Bool.{cases_lt}
 use Rattle.std.proofs.Math.Nat.{div-eq_of_lt, mod-eq_of_lt, div-le_self}
 use Rattle.std.proofs.lemmas.Bool.Decides.{nat_tests}
-use Rattle.exr_base.specs.Sampling.{is_multiple, multiples_among, span_of, sample_count_of, IsFirstSample}
+use Rattle.exr_base.specs.Sampling.{is_multiple, multiples_among, span_of, sample_count_of, count_before, IsFirstSample}
 
 at_multiple : (s q r n : ℕ) → r < s → n ≡ q * s + r → (n / s ≡ q) × (n % s ≡ r)
 at_multiple s q r n h e = (ap (λ k. k / s) e ∙ div-mul-add q s r h, ap (λ k. k % s) e ∙ mod-mul-add q s r h)
@@ -52,6 +52,24 @@ multiples_le s from zero = omega arith
 multiples_le s from (suc n) =
     let e = multiples_le s from n in
     elim (is_multiple s (from +ℤ pos n)) as (λ b. multiples_among s from n + cond b 1 0 ≤ suc n) [ true ↦ omega arith | false ↦ omega arith ]
+
+-- each place is a multiple of one
+each_whole : (z : ℤ) → is_multiple 1 z ≡ true
+each_whole z = grind (arith, nat_tests)
+
+among_each : (from : ℤ) (n : ℕ) → multiples_among 1 from n ≡ n
+unfolding multiples_among
+among_each from zero = refl
+among_each from (suc n) = ap₂ (λ (m : ℕ) (b : Bool). m + cond b 1 0) (among_each from n) (each_whole (from +ℤ pos n)) ∙ omega arith
+
+pub each_place : (sampling : ℕ) (from to : ℤ) (n : ℕ) → sampling ≡ 1 → n ≡ span_of from to → n ≡ sample_count_of sampling from to
+each_place sampling from to n one e = e ∙ sym (among_each from (span_of from to)) ∙ ap (λ s. multiples_among s from (span_of from to)) (sym one)
+
+-- what is counted before a place is counted up to the one before it
+pub places_before : (s n : ℕ) (from low last to : ℤ) → n ≡ sample_count_of s low last → low ≡ from → last ≡ to -ℤ pos 1 → from ≤ℤ to → n ≡ count_before s from to
+places_before s n from low last to e f g le =
+    let same : span_of low last ≡ nat_abs (to -ℤ from) = omega (arith, ints) in
+    e ∙ ap (λ (x : ℤ). multiples_among s x (span_of low last)) f ∙ ap (multiples_among s from) same
 
 joined : (p q : ℤ) (m k : ℕ) → p ≡ q +ℤ pos m → p +ℤ pos k ≡ q +ℤ pos (m + k)
 joined p q m k e = omega (arith, ints)

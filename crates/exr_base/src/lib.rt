@@ -17,5 +17,5 @@ pub use cursor::Cursor;
 pub use method::Method;
 pub use name::Name;
 pub use refusal::{Failed, NoMemory, Refusal};
-pub use sampling::{first_sample, pieces, sample_count, span};
+pub use sampling::{count_before, first_sample, pieces, sample_count, span};
 pub use shape::{Box2i, Shape, is_side_inside};

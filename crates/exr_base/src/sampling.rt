@@ -4,7 +4,7 @@
 //! channels and sampling rates".
 
 ghost use Rattle.std.specs.Prelude.{◌≡◌, ◌≤◌, ◌<◌, ◌^◌, pos, neg_ℤ, ◌≤ℤ◌, ◌-ℤ◌};
-ghost use Rattle.exr_base.specs.Sampling.{IsFirstSample, sample_count_of, span_of, pieces};
+ghost use Rattle.exr_base.specs.Sampling.{IsFirstSample, sample_count_of, count_before, span_of, pieces};
 
 /// The least multiple of `sampling` that is at least `from`.
 pub fn first_sample(sampling: u32, from: i32) -> i64
@@ -19,7 +19,8 @@ pub fn first_sample(sampling: u32, from: i32) -> i64
     }
 }
 
-/// The number of multiples of `sampling` from `from` to `to`, both included.
+/// The number of multiples of `sampling` from `from` to `to`, both included. It is called for each row, so a sampling of 1
+/// takes no division.
 pub fn sample_count(sampling: u32, from: i32, to: i32) -> u32
     requires sampling { 1 ≤ sampling }
     requires from_low { neg_ℤ (pos (2 ^ 30)) ≤ℤ from }
@@ -28,9 +29,23 @@ pub fn sample_count(sampling: u32, from: i32, to: i32) -> u32
     requires to_high { to ≤ℤ pos (2 ^ 30) }
     ensures { result ≡ sample_count_of sampling from to }
 {
+    if sampling == 1 {
+        return span(from, to);
+    }
     let before = (i64::from(from) - 1).div_euclid(i64::from(sampling));
     let last = i64::from(to).div_euclid(i64::from(sampling));
     (last - before) as u32
+}
+
+/// The number of multiples of `sampling` from `from` on and before `to`.
+pub fn count_before(sampling: u32, from: i32, to: i32) -> u32
+    requires sampling { 1 ≤ sampling }
+    requires low { neg_ℤ (pos (2 ^ 30)) ≤ℤ from }
+    requires ordered { from ≤ℤ to }
+    requires high { to ≤ℤ pos (2 ^ 30) }
+    ensures { result ≡ count_before sampling from to }
+{
+    sample_count(sampling, from, to - 1)
 }
 
 /// The places from `from` to `to`, both included.

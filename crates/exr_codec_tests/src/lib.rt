@@ -2,14 +2,4 @@
 #![tactic(auto)]
 
 #[cfg(test)]
-mod huffman;
-#[cfg(test)]
-mod merging;
-#[cfg(test)]
-mod packing;
-#[cfg(test)]
-mod piz;
-#[cfg(test)]
-mod rle;
-#[cfg(test)]
-mod wavelet;
+mod tests;

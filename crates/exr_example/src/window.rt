@@ -1,8 +1,5 @@
 //! A window of a file, read through the library: from a source of bytes to a buffer of samples.
 
-ghost use Rattle.std.specs.Prelude.{◌≡◌, ◌≤ℤ◌, true};
-ghost use Rattle.exr_base.specs.Boxes.{IsInside};
-
 use crate::stop::Stop;
 use exr_base::{Box2i, Failed, Kind, Name, Refusal};
 use exr_layout::{Layout, Plane, Run, Slice, has_few_slices, match_part};
@@ -53,25 +50,6 @@ fn layout(alloc: Global) -> Result<Layout, Stop> {
     }
 }
 
-/// Whether a side has pixels, from `from` to `to`, all of them from `low` to `high`.
-fn is_side_inside(low: i32, high: i32, from: i32, to: i32) -> bool
-    ensures low { result ≡ true → low ≤ℤ from }
-    ensures some { result ≡ true → from ≤ℤ to }
-    ensures high { result ≡ true → to ≤ℤ high }
-{
-    low <= from && from <= to && to <= high
-}
-
-/// Whether a window has pixels, all of them in the data window `all`.
-fn is_inside(all: Box2i, window: Box2i) -> bool
-    ensures { result ≡ true → IsInside all window }
-{
-    if !is_side_inside(all.x0, all.x1, window.x0, window.x1) {
-        return false;
-    }
-    is_side_inside(all.y0, all.y1, window.y0, window.y1)
-}
-
 /// The samples of the first part of an open file.
 fn samples<R: Threads + Sync, W: World, S: Source>(
     rt: &R,
@@ -83,7 +61,7 @@ fn samples<R: Threads + Sync, W: World, S: Source>(
         return Err(Stop::Part);
     }
     let part = stream.header(0);
-    if !is_inside(part.window(), layout.window()) || part.kind().is_deep() {
+    if part.kind().is_deep() {
         return Err(Stop::Part);
     }
     let plan = match match_part(alloc, &layout, part) {

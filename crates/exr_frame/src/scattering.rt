@@ -11,8 +11,7 @@ ghost use Rattle.exr_frame.specs.Buffer.{IsCopied, IsInRegion, chunk_byte};
 ghost use Rattle.exr_frame.specs.Rows.{IsInRow, IsOfChannel, IsOfLine, IsOfLines, IsOfSlice, IsOfFills, filled_byte};
 
 use crate::rows::{fill_row, has_line, is_multiple, put_row, slice_on_line};
-use crate::strip::count_between;
-use exr_base::{Box2i, Channel, Shape};
+use exr_base::{Box2i, Channel, Shape, sample_count};
 use exr_layout::{Layout, Plan};
 
 /// Number of raw bytes of a channel on a line of a region.
@@ -22,7 +21,7 @@ fn row_bytes(channel: &Channel, region: Box2i, y: i32) -> usize
     ensures { result ≡ row_bytes_of region y channel.now }
 {
     if is_multiple(channel.ys, y) {
-        count_between(channel.xs, region.x0, region.x1) as usize * channel.kind.bytes()
+        sample_count(channel.xs, region.x0, region.x1) as usize * channel.kind.bytes()
     } else {
         0
     }

@@ -2,12 +2,11 @@
 
 ghost use Rattle.std.specs.Prelude.{◌≡◌, ◌≤◌, ◌<◌, ◌≤ℤ◌, ◌-ℤ◌, ◌^◌, pos, neg_ℤ, MatchOption};
 ghost use Rattle.exr_base.specs.Shape.{IsRegion, IsSide};
-ghost use Rattle.exr_base.specs.Sampling.{sample_count_of};
 ghost use Rattle.exr_base.specs.Sampling.{count_before};
 ghost use Rattle.exr_layout.specs.Place.{placements_of, placement_at, place_after};
 ghost use Rattle.exr_frame.specs.Rows.{IsStrip, HasNone, IsLineOf, low_of, high_of};
 
-use exr_base::{Box2i, sample_count};
+use exr_base::{Box2i, count_before, sample_count};
 use exr_layout::{Layout, Placement, Plan};
 
 /// Samples of a slice on a line.
@@ -20,43 +19,15 @@ pub(crate) struct Strip {
     pub(crate) skip: usize,
 }
 
-/// The number of multiples of `sampling` from one place to another, both included. It is called for each row, so a
-/// sampling of 1 takes no division.
-pub(crate) fn count_between(sampling: u32, from: i32, to: i32) -> u32
-    requires sampling { 1 ≤ sampling }
-    requires from_low { neg_ℤ (pos (2 ^ 30)) ≤ℤ from }
-    requires from_high { from ≤ℤ pos (2 ^ 30) }
-    requires to_low { (from -ℤ pos 1) ≤ℤ to }
-    requires to_high { to ≤ℤ pos (2 ^ 30) }
-    ensures { result ≡ sample_count_of sampling from to }
-{
-    if sampling == 1 {
-        (i64::from(to) - i64::from(from) + 1) as u32
-    } else {
-        sample_count(sampling, from, to)
-    }
-}
-
-/// Number of multiples of `sampling` from one place on and before another.
-fn count_before(sampling: u32, from: i32, to: i32) -> u64
-    requires sampling { 1 ≤ sampling }
-    requires low { neg_ℤ (pos (2 ^ 30)) ≤ℤ from }
-    requires ordered { from ≤ℤ to }
-    requires high { to ≤ℤ pos (2 ^ 30) }
-    ensures { result ≡ count_before sampling from to }
-{
-    u64::from(count_between(sampling, from, to - 1))
-}
-
 /// Offset of the sample that has `line` rows of its plane and `column` samples of its row before it.
-fn place(placement: &Placement, line: u64, column: u64) -> u64
+fn place(placement: &Placement, line: u32, column: u32) -> u64
     requires { place_after placement.now line column < 2 ^ 64 }
     ensures { result ≡ place_after placement.now line column }
 {
     placement.base
-        + line * placement.row_stride
+        + u64::from(line) * placement.row_stride
         + placement.run
-        + column * placement.stride
+        + u64::from(column) * placement.stride
         + placement.at
 }
 
@@ -79,7 +50,7 @@ fn strip_between(
     ensures { MatchOption result (HasNone layout.now region number y) (IsStrip layout.now region number y) }
 {
     let window = layout.window();
-    let samples = count_between(placement.sampling, low, high);
+    let samples = sample_count(placement.sampling, low, high);
     if samples == 0 {
         return None;
     }

@@ -45,15 +45,6 @@ before_less s from a b h here =
     let f = among_to s from (suc a) b (omega arith) in
     omega arith
 
--- each place is a multiple of one
-whole : (z : ℤ) → is_multiple 1 z ≡ true
-whole z = grind (arith, nat_tests)
-
-pub among_each : (from : ℤ) (n : ℕ) → multiples_among 1 from n ≡ n
-unfolding multiples_among
-among_each from zero = refl
-among_each from (suc n) = ap₂ (λ (m : ℕ) (b : Bool). m + cond b 1 0) (among_each from n) (whole (from +ℤ pos n)) ∙ omega arith
-
 -- the multiple of a number
 pub record Multiple (s : ℕ) (from : ℤ) (n i : ℕ) : Type 0 where
   pub at : ℕ
@@ -122,10 +113,3 @@ pub before_split : (s : ℕ) (from mid z : ℤ) → from ≤ℤ mid → mid ≤�
 before_split s from mid z h k =
     ap (multiples_among s from) (steps_split from mid z h k) ∙ among_add s from (nat_abs (mid -ℤ from)) (nat_abs (z -ℤ mid))
     ∙ ap (λ w. multiples_among s from (nat_abs (mid -ℤ from)) + multiples_among s w (nat_abs (z -ℤ mid))) (steps_to from mid h)
-
-span_before : (from z before : ℤ) → from ≤ℤ z → before ≡ z -ℤ pos 1 → span_of from before ≡ nat_abs (z -ℤ from)
-span_before from z before h e = omega (arith, ints)
-
--- what is counted up to one place before another
-pub count_to : (s : ℕ) (from z before : ℤ) → from ≤ℤ z → before ≡ z -ℤ pos 1 → sample_count_of s from before ≡ count_before s from z
-count_to s from z before h e = ap (multiples_among s from) (span_before from z before h e)

@@ -11,9 +11,31 @@ use Rattle.exr_layout.specs.declared.planes.Run.{Run}
 use Rattle.exr_layout.specs.declared.planes.Plane.{Plane}
 use Rattle.exr_layout.specs.declared.placement.Placement.{Placement}
 
+-- ---- runs and planes by what they say, wherever their slices and runs are kept in memory
+
+pub record PlainRun : Type 0 where
+  pub at : ℕ
+  pub stride : ℕ
+  pub sampling : ℕ
+  pub slices : List Slice
+
+pub record PlainPlane : Type 0 where
+  pub base : ℕ
+  pub stride : ℕ
+  pub sampling : ℕ
+  pub runs : List PlainRun
+
+abbrev pub plain_run : Run → PlainRun
+plain_run r = record { at = r.at; stride = r.stride; sampling = r.sampling; slices = r.slices.items }
+
+abbrev pub plain_plane : Plane → PlainPlane
+plain_plane p = record { base = p.base; stride = p.stride; sampling = p.sampling; runs = map plain_run p.runs.items }
+
+-- ---- placements
+
 -- a slice with its run and its plane
-abbrev pub placement_of : Plane → Run → Slice → Placement
-placement_of p r s = record {
+abbrev pub placement_in : PlainPlane → PlainRun → Slice → Placement
+placement_in p r s = record {
   channel = s.channel;
   kind = s.kind;
   fill = s.fill;
@@ -25,6 +47,9 @@ placement_of p r s = record {
   sampling = r.sampling;
   at = s.at;
 }
+
+abbrev pub placement_of : Plane → Run → Slice → Placement
+placement_of p r = placement_in (plain_plane p) (plain_run r)
 
 -- all slices, in the order in which they are listed: the number of a slice is its place here
 abbrev pub placements_of_run : Plane → Run → List Placement

@@ -6,7 +6,7 @@ ghost use Rattle.exr_judge.specs.Picture.{IsPicture};
 ghost use Rattle.exr_layout.specs.Inverse.{AreInverse};
 ghost use Rattle.exr_layout.specs.Place.{placements_of};
 ghost use Rattle.exr_base.specs.Channel.{channel_at, is_named};
-ghost use Rattle.exr_base.specs.Boxes.{is_side_inside, is_inside};
+ghost use Rattle.exr_base.specs.Boxes.{is_side_inside, is_inside, IsInside};
 ghost use Rattle.exr_layout.specs.Plan.{same_kind, same_samplings, against, slice_matched, slices_matched, part_matched, IsFull, IsPlanOf};
 
 use crate::fault::MatchFault;
@@ -170,7 +170,8 @@ fn by_channel(
     Ok(slices)
 }
 
-/// Matches the slices of a layout with the channels of a part by name; the first difference is the fault (own).
+/// Matches the slices of a layout with the channels of a part by name; the first difference is the fault (own). The
+/// layout's window lies in the data window of a part that it matches.
 #[tactic(auto, unfolding(crate::specs::Plan::part_matched))]
 pub fn match_part(
     alloc: Global,
@@ -180,6 +181,7 @@ pub fn match_part(
     requires { IsPicture header.now }
     ensures exact { Gives (λ plan. plan.channels) result (part_matched layout.now header.now) }
     ensures plan { IfOk result (IsPlanOf layout.now header.now.channels) }
+    ensures inside { IfOk result (λ _. IsInside header.now.window layout.now.window) }
 {
     if !layout.window().is_inside(header.window()) {
         return Err(Refusal::Fault(MatchFault::WindowOutside));

@@ -19,21 +19,6 @@ use Rattle.exr_planar.specs.Moving.{rows_at}
 use Rattle.exr_planar.specs.declared.rows.Rows.{Rows}
 use Rattle.exr_planar.proofs.Grid.{IsGrid, cut, swapped}
 
--- every place is a multiple of 1
-one_of : (z : ℤ) → ◌≡◌ {A = ℕ} (cond (is_multiple 1 z) 1 0) 1
-one_of z = let f : nat_abs z % 1 ≡ 0 = omega arith in rw f refl
-
-of_one : (from : ℤ) (n : ℕ) → multiples_among 1 from n ≡ n
-unfolding multiples_among
-of_one from zero = refl
-of_one from (suc n) = ap₂ (λ (a b : ℕ). a + b) (of_one from n) (one_of (from +ℤ pos n)) ∙ more n
-  where
-    more : (n : ℕ) → n + 1 ≡ suc n
-    more n = omega arith
-
-pub each_place : (sampling : ℕ) (from to : ℤ) (n : ℕ) → sampling ≡ 1 → n ≡ span_of from to → n ≡ sample_count_of sampling from to
-each_place sampling from to n one e = e ∙ sym (of_one from (span_of from to)) ∙ ap (λ s. multiples_among s from (span_of from to)) (sym one)
-
 bytes_few : (kind : Kind) → bytes_of kind ≤ 4
 bytes_few Uint = omega arith
 bytes_few Half = omega arith
@@ -75,11 +60,6 @@ pub one_line : (s n : ℕ) (from to y : ℤ) → n ≡ sample_count_of s from to
 one_line s n from to y e f g =
     let one : span_of from to ≡ 1 = omega (arith, ints) in
     e ∙ ap (λ (z : ℤ). multiples_among s z (span_of from to)) f ∙ ap (multiples_among s y) one
-
-pub lines_above : (s n : ℕ) (from low y z : ℤ) → n ≡ sample_count_of s low z → low ≡ from → z ≡ y -ℤ pos 1 → from ≤ℤ y → n ≡ count_before s from y
-lines_above s n from low y z e f g le =
-    let above : span_of low z ≡ nat_abs (y -ℤ from) = omega (arith, ints) in
-    e ∙ ap (λ (x : ℤ). multiples_among s x (span_of low z)) f ∙ ap (multiples_among s from) above
 
 swap_last : (a b k : ℕ) → a * k * b ≡ a * b * k
 swap_last a b k = omega arith

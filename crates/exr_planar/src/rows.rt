@@ -1,11 +1,11 @@
 //! How many bytes the rows of a channel have.
 
 ghost use Rattle.std.specs.Prelude.{◌≡◌, ◌≤◌, ◌<◌, ◌^◌, ◌-ℤ◌, ◌+ℤ◌, ◌≤ℤ◌, pos, neg_ℤ};
-ghost use Rattle.exr_base.specs.Sampling.{multiples_among, count_before, sample_count_of};
+ghost use Rattle.exr_base.specs.Sampling.{multiples_among};
 ghost use Rattle.exr_base.specs.Shape.{IsRegion, IsSampled, height_of};
 ghost use Rattle.exr_planar.specs.Moving.{rows_at};
 
-use exr_base::{Box2i, Channel, sample_count, span};
+use exr_base::{Box2i, Channel, count_before, sample_count, span};
 
 /// Bytes of a channel in a region, seen from one of its lines.
 #[derive(Clone, Copy)]
@@ -38,22 +38,6 @@ fn line_at(region: Box2i, line: usize) -> i32
     region.y0 + line as i32
 }
 
-/// The number of multiples of a sampling from one place to another, both included.
-fn samples(sampling: u32, from: i32, to: i32) -> usize
-    requires sampling { 1 ≤ sampling }
-    requires from_low { neg_ℤ (pos (2 ^ 30)) ≤ℤ from }
-    requires from_high { from ≤ℤ pos (2 ^ 30) }
-    requires to_low { (from -ℤ pos 1) ≤ℤ to }
-    requires to_high { to ≤ℤ pos (2 ^ 30) }
-    ensures { result ≡ sample_count_of sampling from to }
-{
-    if sampling == 1 {
-        span(from, to) as usize
-    } else {
-        sample_count(sampling, from, to) as usize
-    }
-}
-
 /// Whether a place is a multiple of a sampling, as a number.
 fn samples_at(sampling: u32, y: i32) -> usize
     requires sampling { 1 ≤ sampling }
@@ -61,19 +45,7 @@ fn samples_at(sampling: u32, y: i32) -> usize
     requires high { y ≤ℤ pos (2 ^ 30) }
     ensures { result ≡ multiples_among sampling y 1 }
 {
-    samples(sampling, y, y)
-}
-
-/// The number of multiples of a sampling from one place on and before another.
-fn samples_before(sampling: u32, from: i32, y: i32) -> usize
-    requires sampling { 1 ≤ sampling }
-    requires from_low { neg_ℤ (pos (2 ^ 30)) ≤ℤ from }
-    requires from_high { from ≤ℤ pos (2 ^ 30) }
-    requires low { from ≤ℤ y }
-    requires high { y ≤ℤ pos (2 ^ 30) }
-    ensures { result ≡ count_before sampling from y }
-{
-    samples(sampling, from, y - 1)
+    sample_count(sampling, y, y) as usize
 }
 
 /// The sizes of a channel's rows, seen from a line of a region.
@@ -84,10 +56,10 @@ pub(crate) fn rows_at(channel: &Channel, region: Box2i, line: usize) -> Rows
     ensures { result ≡ rows_at region line channel.now }
 {
     let y = line_at(region, line);
-    let row = samples(channel.xs, region.x0, region.x1) * channel.kind.bytes();
+    let row = sample_count(channel.xs, region.x0, region.x1) as usize * channel.kind.bytes();
     let here = samples_at(channel.ys, y);
-    let above = samples_before(channel.ys, region.y0, y);
-    let all = samples(channel.ys, region.y0, region.y1);
+    let above = count_before(channel.ys, region.y0, y) as usize;
+    let all = sample_count(channel.ys, region.y0, region.y1) as usize;
     Rows {
         here: row * here,
         above: row * above,

@@ -15,7 +15,7 @@ use Rattle.exr_layout.specs.declared.fault.LayoutFault.{LayoutFault}
 use Rattle.exr_layout.specs.declared.fault.LayoutFault.TheVariants.{Empty, Huge, ZeroSampling, Overlap, ShortStride, OutOfBuffer}
 use Rattle.exr_layout.specs.declared.fault.MatchFault.TheVariants.{WindowOutside}
 use Rattle.exr_layout.specs.Validation.{Frame, is_empty_run, is_empty_plane, is_huge, is_huge_slice, is_huge_run, is_huge_plane, refused_at, names_validated, validated, slices_validated, end_of, run_validated, runs_validated, samplings_validated, plane_validated, planes_validated, frame_validated, slices_of_plane, slices_of}
-use Rattle.exr_layout.specs.Place.{placements_of_plane, placements_of}
+use Rattle.exr_layout.specs.Place.{placement_in, placements_of_plane, placements_of}
 use Rattle.exr_base.specs.Boxes.{is_inside}
 use Rattle.exr_layout.specs.Plan.{slices_matched, part_matched}
 use Rattle.exr_request.specs.declared.fault.RequestStop.{RequestStop}
@@ -198,22 +198,8 @@ judged_alike f g alike =
 -- ---- slices with all that says where their samples stand
 
 -- the same of plain planes
-abbrev pub plain_spot : PlainPlane → PlainRun → Slice → Placement
-plain_spot p r s = record {
-  channel = s.channel;
-  kind = s.kind;
-  fill = s.fill;
-  base = p.base;
-  row_stride = p.stride;
-  row_sampling = p.sampling;
-  run = r.at;
-  stride = r.stride;
-  sampling = r.sampling;
-  at = s.at;
-}
-
 abbrev pub plain_spots_of_run : PlainPlane → PlainRun → List Placement
-plain_spots_of_run p r = map (plain_spot p r) r.slices
+plain_spots_of_run p r = map (placement_in p r) r.slices
 
 abbrev pub plain_spots_of_plane : PlainPlane → List Placement
 plain_spots_of_plane p = flat_map (plain_spots_of_run p) p.runs

@@ -9,15 +9,15 @@ use Rattle.exr_asked.specs.declared.choices.Arrangement.TheVariants.{Planar}
 use Rattle.exr_layout.specs.declared.placement.Placement.{Placement}
 use Rattle.exr_layout.specs.Validation.{Frame}
 use Rattle.exr_base.specs.Sampling.{count_before}
-use Rattle.exr_layout.specs.Place.{placements_of, placement_at, place_in_buffer}
+use Rattle.exr_layout.specs.Place.{placement_in, placements_of, placement_at, place_in_buffer}
 use Rattle.exr_request.specs.Arranged.{kind_bytes, row_bytes, plane_bytes, behind, slice_for, run_for, plane_for, planes_for}
 use Rattle.exr_asked.specs.Demand.{Demand}
 use Rattle.exr_request.specs.Request.{window_asked, channels_asked, IsArranged}
-use Rattle.exr_request.proofs.Alike.{plain_spot, plain_spots, same_spots}
+use Rattle.exr_request.proofs.Alike.{plain_spots, same_spots}
 
 -- the slice of a channel whose plane has a base
 abbrev pub planar_spot : Box2i → ℕ → ℕ → ℕ → Channel → Placement
-planar_spot window pad fill base c = plain_spot (plane_for window pad fill base c) (run_for fill 0 c) (slice_for fill 0 c)
+planar_spot window pad fill base c = placement_in (plane_for window pad fill base c) (run_for fill 0 c) (slice_for fill 0 c)
 
 -- the bytes of the planes before one
 abbrev pub bytes_before : Box2i → ℕ → List Channel → ℕ → ℕ

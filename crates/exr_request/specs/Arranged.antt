@@ -7,29 +7,8 @@ use Rattle.exr_base.specs.Sampling.{sample_count_of}
 use Rattle.exr_asked.specs.declared.choices.Arrangement.{Arrangement}
 use Rattle.exr_asked.specs.declared.choices.Arrangement.TheVariants.{Planar, Lines, Pixels}
 use Rattle.exr_layout.specs.declared.planes.Slice.{Slice}
-use Rattle.exr_layout.specs.declared.planes.Run.{Run}
-use Rattle.exr_layout.specs.declared.planes.Plane.{Plane}
+pub use Rattle.exr_layout.specs.Place.{PlainRun, PlainPlane, plain_run, plain_plane}
 use Rattle.exr_request.specs.Chosen.{first_of}
-
--- ---- runs and planes by what they say, wherever their slices and runs are kept in memory
-
-pub record PlainRun : Type 0 where
-  pub at : ℕ
-  pub stride : ℕ
-  pub sampling : ℕ
-  pub slices : List Slice
-
-pub record PlainPlane : Type 0 where
-  pub base : ℕ
-  pub stride : ℕ
-  pub sampling : ℕ
-  pub runs : List PlainRun
-
-abbrev pub plain_run : Run → PlainRun
-plain_run r = record { at = r.at; stride = r.stride; sampling = r.sampling; slices = r.slices.items }
-
-abbrev pub plain_plane : Plane → PlainPlane
-plain_plane p = record { base = p.base; stride = p.stride; sampling = p.sampling; runs = map plain_run p.runs.items }
 
 -- ---- sizes, in bytes
 

@@ -37,17 +37,7 @@ inside_of : (h : Header) (w : Box2i) → IsTrue (is_window_of h w) → IsInside 
 inside_of h w within =
     let a = and_parts (not (is_empty w)) (is_inside w h.window) within in
     let b = not_either (int_lt w.x1 w.x0) (int_lt w.y1 w.y0) a.0 in
-    let c = and_parts (is_side_inside w.x0 w.x1 h.window.x0 h.window.x1) (is_side_inside w.y0 w.y1 h.window.y0 h.window.y1) a.1 in
-    let x = and_parts (int_le h.window.x0 w.x0) (int_le w.x1 h.window.x1) c.0 in
-    let y = and_parts (int_le h.window.y0 w.y0) (int_le w.y1 h.window.y1) c.1 in
-    record {
-      left = le_true h.window.x0 w.x0 x.0;
-      columns = lt_false w.x0 w.x1 b.0;
-      right = le_true w.x1 h.window.x1 x.1;
-      top = le_true h.window.y0 w.y0 y.0;
-      rows = lt_false w.y0 w.y1 b.1;
-      bottom = le_true w.y1 h.window.y1 y.1;
-    }
+    inside_is h.window w (lt_false w.x0 w.x1 b.0) (lt_false w.y0 w.y1 b.1) a.1
 
 -- ---- grants
 

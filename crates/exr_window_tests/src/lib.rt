@@ -2,12 +2,4 @@
 #![tactic(auto)]
 
 #[cfg(test)]
-mod chunks;
-#[cfg(test)]
-mod frames;
-#[cfg(test)]
-mod heads;
-#[cfg(test)]
-mod layouts;
-#[cfg(test)]
-mod planes;
+mod tests;

@@ -1,4 +1,6 @@
-use Rattle.std.proofs.Common.{arith}
+use Rattle.std.proofs.Common.{arith, rules, IsTrue}
+use Rattle.exr_base.specs.Boxes.{is_inside}
+use Rattle.exr_base.proofs.Sides.{inside_is}
 use Rattle.exr_layout.specs.Place.{placements_of}
 use Rattle.exr_layout.proofs.Matched.{few_spots, few_places, all_passed, slice_channel, one_slice, matched_here, as_many}
 use Rattle.exr_layout.proofs.plan.match_part.Goals as goal
@@ -23,3 +25,9 @@ by_channel-requires-clause-once c =
     let matched = matched_here c.args.header.now.channels c.channels.result.now c.args.layout.now.planes c.planes.result.now c.in_ok-placements.placements.items c.as_slice.result.now c.in_ok-channels.channels.items c.channels.ensures c.as_slice.ensures.value c.in_ok-placements.ensures c.planes.ensures.value c.in_ok-channels.ensures in
     let names = all_passed c.args.layout.now c.planes.ensures.valid in
     rw c.as_slice-2.ensures.value (λ s t place h k. one_slice c.args.header.now.channels c.args.layout.now.planes c.in_ok-channels.channels.items names.tested s t place names.names matched h k)
+
+pub returns-clause-inside : goal.returns-clause-inside
+returns-clause-inside c =
+    let frame = c.planes.ensures.frame in
+    let within : IsTrue (is_inside c.args.layout.now.window c.args.header.now.window) = search rules in
+    inside_is c.args.header.now.window c.args.layout.now.window frame.columns frame.rows within

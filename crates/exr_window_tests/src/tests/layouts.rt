@@ -1,7 +1,7 @@
 //! Layouts by worked values: each fault by its first slice or plane, and layouts matched with the channels of a part.
 
-use crate::heads::{Channel, File, HALF, Part, head_of};
-use crate::planes::{PlainPlane, PlainSlice, planes_of};
+use super::heads::{Channel, File, HALF, Part, head_of};
+use super::planes::{PlainPlane, PlainSlice, planes_of};
 use exr_base::{Box2i, Kind, Refusal};
 use exr_layout::{Layout, LayoutFault, MatchFault, has_few_slices, match_part};
 use std::alloc::Global;

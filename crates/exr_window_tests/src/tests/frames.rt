@@ -5,8 +5,8 @@ ghost use Rattle.std.specs.Prelude.{◌≡◌, ◌≤ℤ◌};
 ghost use Rattle.exr_base.specs.Shape.{IsRegion};
 ghost use Rattle.exr_judge.specs.Picture.{IsPicture};
 
-use crate::heads::{Channel, File, HALF, Part, head_of};
-use crate::planes::{PlainPlane, planes_of};
+use super::heads::{Channel, File, HALF, Part, head_of};
+use super::planes::{PlainPlane, planes_of};
 use exr_base::{Box2i, Kind, Shape};
 use exr_frame::{gather, scatter};
 use exr_header::Header;

@@ -1,6 +1,6 @@
 use Rattle.std.proofs.Common.{length, arith}
 use Rattle.exr_wavelet.proofs.Room.{place_in_room}
-use Rattle.exr_codec_tests.proofs.wavelet.Case.step.Goals as goal
+use Rattle.exr_codec_tests.proofs.tests.wavelet.Case.step.Goals as goal
 
 pub encode-requires-clause-within : goal.encode-requires-clause-within
 encode-requires-clause-within c x y x_in y_in =

@@ -1,7 +1,7 @@
 //! Chunks by worked values: tiles of two by two, decreasing blocks of 32 lines, two parts, and channels of unlike
 //! samplings.
 
-use crate::heads::{Channel, File, HALF, Part, head_of};
+use super::heads::{Channel, File, HALF, Part, head_of};
 use exr_base::Box2i;
 use exr_chunks::{Geometry, Place};
 use std::alloc::Global;

@@ -1,5 +1,5 @@
 use Rattle.std.proofs.Common.{◌≡◌, take, sum}
-use Rattle.exr_codec_tests.proofs.merging.total_of.Given as goal
+use Rattle.exr_codec_tests.proofs.tests.merging.total_of.Given as goal
 
 abbrev pub invariant-loop-weight : goal.invariant-loop-weight
 invariant-loop-weight l = l.total ≡ sum (take l.weight-index l.weights)
