@@ -10,12 +10,11 @@ use Rattle.exr_chunks.specs.Heads.{chunk_count_of, IsPicture}
 use Rattle.exr_chunks.specs.Part.{without_attributes}
 use Rattle.exr_chunks.specs.Sizes.{IsMeasured}
 use Rattle.exr_outside.specs.Source.{SourceMeaning, IsSameSource}
-use Rattle.exr_opening.specs.declared.opening.OpenFault.{OpenFault}
-use Rattle.exr_opening.specs.declared.opening.OpenFault.TheVariants as opening
 use Rattle.exr_stream.specs.declared.fault.FetchFault.{FetchFault}
 use Rattle.exr_stream.specs.declared.fault.FetchFault.TheVariants as fetch
 use Rattle.exr_stream.specs.declared.front.Front.{Front}
 use Rattle.exr_stream.specs.Chunk.{Opened}
+pub use Rattle.exr_opening.specs.Opening.{IsWhyNot, OwesRead}
 
 -- what contracts see of a stream: its source, the head of the file and how many bytes the head fills
 pub record StreamView (S : Type 0) : Type 0 where
@@ -38,17 +37,6 @@ pub record IsSameStream {S : Type 0} (means : SourceMeaning S) (old new : Stream
   pub head_bytes : new.head_bytes ≡ old.head_bytes
 
 -- ---- answers
-
--- why a file could not be opened, against its content
-abbrev pub IsWhyNot : Refusal OpenFault → List ℕ → Type 0
-IsWhyNot (Fault (opening.Head f)) content = head_of content ≡ Err f
-IsWhyNot (Fault opening.Read) content = Unit {0}
-IsWhyNot NoMemory content = Unit {0}
-
--- a failed read owes a rise
-abbrev pub OwesRead : Refusal OpenFault → Type 0 → Type 0
-OwesRead (Fault opening.Read) rose = rose
-OwesRead other rose = Unit {0}
 
 -- the data of a chunk, or its fault; a failed read and want of memory say nothing
 abbrev pub Fetches : Result Body (Refusal FetchFault) → Result (List ℕ) ChunkFault → Type 0
