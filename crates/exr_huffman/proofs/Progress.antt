@@ -9,7 +9,8 @@ use Rattle.exr_codes.specs.Tables.{◌>>=◌}
 use Rattle.exr_codes.proofs.Intervals.{entry_at_is, entry_at_nothing}
 use Rattle.exr_huffman.specs.Tokens.{Token, word, more, token_at, token_of, run_token, run_entry, tokens_within, tokens_of, words_from, words_of}
 use Rattle.exr_huffman.specs.Blocks.{is_run, judged, data_words_of}
-use Rattle.exr_huffman.specs.Reading.{last_from, Progress}
+use Rattle.exr_huffman.specs.Reading.{Progress}
+pub use Rattle.exr_huffman.specs.Reading.{last_from}
 use Rattle.exr_huffman.specs.declared.fault.HufFault.TheVariants.{RunFirst, TooMany, TooFew}
 
 -- ---- a token is not empty
