@@ -1,5 +1,5 @@
 -- The words whose codes begin a front of 12 bits.
-use Rattle.std.specs.Prelude.{◌≡◌, ℕ, ◌+◌, ◌<◌, ◌≤◌, Bool, List, length, take, drop, slice_index_or, Some}
+use Rattle.std.specs.Prelude.{◌≡◌, ℕ, ◌<◌, ◌≤◌, Bool, List, length, take, drop, slice_index_or, Some}
 use Rattle.exr_base.specs.Bits.{number_of}
 use Rattle.exr_huffman.specs.Tokens.{word, token_at}
 use Rattle.exr_huffman.specs.declared.fronts.Front.{Front}

@@ -1,4 +1,4 @@
-use Rattle.std.proofs.Common.{◌≡◌, ◌+◌, ◌-◌, ◌*◌, ◌%◌, ◌^◌, ◌<◌, ◌≤◌, arith}
+use Rattle.std.proofs.Common.{◌≡◌, ◌+◌, ◌*◌, ◌%◌, ◌^◌, ◌≤◌, arith}
 use Rattle.exr_huffman.proofs.ByFronts.{first_word, second_word}
 use Rattle.exr_huffman.proofs.fronts.front_of.Goals as goal
 

@@ -1,4 +1,4 @@
-use Rattle.std.proofs.Common.{◌≡◌, ℕ, ◌<◌, length, get_or}
+use Rattle.std.proofs.Common.{ℕ, ◌<◌, get_or}
 use Rattle.exr_huffman.specs.declared.fronts.Front.{Front}
 use Rattle.exr_huffman.specs.Fronts.{IsFront}
 use Rattle.exr_huffman.proofs.fronts.lay_fronts.Given as goal

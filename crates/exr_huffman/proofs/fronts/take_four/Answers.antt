@@ -1,4 +1,4 @@
-use Rattle.std.proofs.Common.{◌≡◌, ◌≤◌, length, arith}
+use Rattle.std.proofs.Common.{arith}
 use Rattle.exr_huffman.proofs.fronts.take_four.Goals as goal
 
 pub returns-clause-read : goal.returns-clause-read

@@ -1,5 +1,4 @@
-use Rattle.std.proofs.Common.{◌≡◌, ◌+◌, ◌*◌, ◌/◌, ◌^◌, ◌<◌, ◌≤◌, length, get_or, ◌∙◌, arith}
-use Rattle.exr_base.proofs.BitLists.{length-bits_of_bytes}
+use Rattle.std.proofs.Common.{◌/◌, ◌^◌, ◌≤◌, length, get_or, arith}
 use Rattle.exr_huffman.specs.Nexts.{data_rest}
 use Rattle.exr_huffman.specs.Fronts.{BeginsFront}
 use Rattle.exr_huffman.specs.declared.fronts.Front.{Front}
