@@ -4,9 +4,11 @@ exr_bench in turn, round by round, and prints the table of docs/PERFORMANCE.md: 
 Both print a checksum of what they computed, and the two have to agree.
 
 Use: python3 tools/bench.py [ROUNDS [WORD]], at the top of the repository, after `rt ci exr_bench` has built the program;
-with a word only the kernels whose name begins with it.
+with a word only the kernels whose name begins with it. With the name of a PIZ file of scan lines and a command in its place,
+as `tools/bench.py 9 picture.exr "exrpeer bench picture.exr 1 {} cpp"`, the file's blocks are unpacked in turn with the command,
+which reads the file as often as the number in the place of {} says.
 """
-import heapq, math, os, random, struct, subprocess, sys, tempfile
+import heapq, math, os, random, shlex, struct, subprocess, sys, tempfile
 from collections import Counter
 
 import exr_file
@@ -290,12 +292,42 @@ def cases():
         yield "head-read", f"{count:,} names of one number", data, len(data)
 
 
+def piz_blocks(path):
+    """The PIZ blocks of a file of one part of scan lines, whose channels are all of one kind, as piz-unpack-all takes them."""
+    with open(path, "rb") as file:
+        data = file.read()
+    at, values = 8, {}
+    while data[at]:
+        name, kind, rest = data[at:].split(b"\0", 2)
+        size = struct.unpack("<i", rest[:4])[0]
+        at += len(name) + len(kind) + 6
+        values[name] = data[at : at + size]
+        at += size
+    x0, y0, x1, y1 = struct.unpack("<4i", values[b"dataWindow"])
+    channels = values[b"channels"][:-1]
+    count, kinds = 0, set()
+    while channels:
+        channels = channels[channels.index(0) + 1 :]
+        kinds.add(struct.unpack("<i", channels[:4])[0])
+        count, channels = count + 1, channels[16:]
+    if values[b"compression"] != b"\x04" or len(kinds) != 1:
+        sys.exit(f"{path}: not a PIZ file with channels of one kind")
+    chunks = (y1 - y0) // 32 + 1
+    out = struct.pack("<I", chunks)
+    for offset in struct.unpack_from(f"<{chunks}Q", data, at + 1):
+        line, size = struct.unpack_from("<2i", data, offset)
+        lines, sample = min(32, y1 - line + 1), 2 if kinds == {exr_file.HALF} else 4
+        out += struct.pack("<5I", x1 - x0 + 1, lines, count, sample, size) + data[offset + 8 : offset + 8 + size]
+    return out, (x1 - x0 + 1) * (y1 - y0 + 1) * count * sample
+
+
 # ---- runs
 
 def timed(words):
-    """The processor time of a run and what it prints. Blocks of B44 are measured where memory is reused from turn to turn, as
-    it is when many blocks are unpacked: fresh pages would cost more than the work."""
-    child = subprocess.Popen(words, stdout=subprocess.PIPE, env=REUSE if words[1].startswith("b44") else None)
+    """The processor time of a run and what it prints. Blocks of B44, and a file beside a command, are measured where memory is
+    reused from turn to turn, as it is when many blocks are unpacked: fresh pages would cost more than the work."""
+    is_kept = words[1].startswith("b44") or WORD.endswith(".exr")
+    child = subprocess.Popen(words, stdout=subprocess.PIPE, env=REUSE if is_kept else None)
     printed = child.stdout.read()
     _, status, usage = os.wait4(child.pid, 0)
     child.returncode = os.waitstatus_to_exitcode(status)
@@ -318,7 +350,24 @@ def least_times(programs, words):
     return least
 
 
+def beside(path, command):
+    """Times the blocks of a PIZ file and a command that reads it, by turns, and prints the least processor times of one reading."""
+    data, raw = piz_blocks(path)
+    ours = theirs = math.inf
+    with tempfile.NamedTemporaryFile() as source:
+        source.write(data)
+        source.flush()
+        for _ in range(ROUNDS):
+            one, more = (timed([PROGRAM, "piz-unpack-all", source.name, repeats])[0] for repeats in ("1", "6"))
+            ours = min(ours, (more - one) / 5)
+            one, more = (timed(shlex.split(command.replace("{}", repeats)))[0] for repeats in ("1", "6"))
+            theirs = min(theirs, (more - one) / 5)
+    print(f"{path}: {ours * 1e3:.1f} ms, {raw / ours / 1e6:,.0f} MB/s; the command {theirs * 1e3:.1f} ms; ratio {ours / theirs:.2f}")
+
+
 def main():
+    if WORD.endswith(".exr"):
+        return beside(WORD, sys.argv[3])
     print("| kernel | input | MB/s of raw data | ratio to the C twin | times half as many attributes |")
     print("|---|---|---|---|---|")
     halves = {}

@@ -82,6 +82,7 @@ fn sum_of(alloc: Global, kernel: &str, bytes: &[u8], repeats: u32) -> Result<u64
         "huffman-unpack" => huffman::unpack(alloc, bytes, repeats),
         "piz-pack" => piz::pack(alloc, bytes, repeats),
         "piz-unpack" => piz::unpack(alloc, bytes, repeats),
+        "piz-unpack-all" => piz::unpack_all(alloc, bytes, repeats),
         _ => Err(Stop::Words),
     }
 }

@@ -102,9 +102,10 @@ pub(crate) fn pack(alloc: Global, bytes: &[u8], repeats: u32) -> Result<u64, Sto
     Ok(sum)
 }
 
-/// Unpacks a block's packed data so often.
-pub(crate) fn unpack(alloc: Global, bytes: &[u8], repeats: u32) -> Result<u64, Stop> {
-    let block = block_of(alloc, bytes)?;
+/// The raw data that packed data stands for, of a block's shape.
+fn unpacked(alloc: Global, block: &Block<'_>, data: &[u8]) -> Result<Vec<u8>, Stop>
+    requires { IsShape block.now.channels.items block.now.region }
+{
     let shape = Shape {
         channels: &block.channels,
         region: block.region,
@@ -113,10 +114,36 @@ pub(crate) fn unpack(alloc: Global, bytes: &[u8], repeats: u32) -> Result<u64, S
     if size == 0 || size > 1 << 26 {
         return Err(Stop::Form);
     }
+    Ok(exr_piz::unpack(alloc, data, &shape)?)
+}
+
+/// Unpacks a block's packed data so often.
+pub(crate) fn unpack(alloc: Global, bytes: &[u8], repeats: u32) -> Result<u64, Stop> {
+    let block = block_of(alloc, bytes)?;
     let mut sum = 0;
     for turn in 0..repeats {
-        let raw = exr_piz::unpack(alloc, block.data, &shape)?;
+        let raw = unpacked(alloc, &block, block.data)?;
         sum = add_bytes(sum, &raw, turn, turn + 1 == repeats);
+    }
+    Ok(sum)
+}
+
+/// Unpacks all blocks of a file so often. Their number comes first, and each block's size before its data.
+pub(crate) fn unpack_all(alloc: Global, bytes: &[u8], repeats: u32) -> Result<u64, Stop> {
+    let (count, blocks) = number(bytes)?;
+    let mut sum = 0;
+    for turn in 0..repeats {
+        let mut rest = blocks;
+        for _ in 0..count {
+            let block = block_of(alloc, rest)?;
+            let (size, data) = number(block.data)?;
+            if size > data.len() {
+                return Err(Stop::Form);
+            }
+            let raw = unpacked(alloc, &block, &data[..size])?;
+            sum = add_bytes(sum, &raw, turn, turn + 1 == repeats);
+            rest = &data[size..];
+        }
     }
     Ok(sum)
 }

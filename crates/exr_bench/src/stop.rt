@@ -27,6 +27,8 @@ what it gave. The kernels, and what the file has:
   piz-pack         how many columns, lines and channels there are, the bytes of a
                    sample, 2 or 4, and raw data
   piz-unpack       the same, of packed data
+  piz-unpack-all   how many blocks there are, and each as for piz-unpack, with
+                   the size of its data before the data
   head-read        a file, or the head of one
 
 A number takes four bytes and a word two, both little endian.

@@ -10,7 +10,8 @@ use Rattle.exr_codes.proofs.Intervals.{entry_at_is}
 use Rattle.exr_huffman.specs.Tokens.{Token, word, more, token_at, token_of, run_token, run_entry, token_and, tokens_within, tokens_of, words_from}
 use Rattle.exr_huffman.specs.Blocks.{is_run, data_words_of}
 use Rattle.exr_huffman.specs.declared.fault.HufFault.TheVariants.{TooFew}
-use Rattle.exr_huffman.proofs.Progress.{last_from, word_first, judged_few}
+use Rattle.exr_huffman.specs.Reading.{last_from}
+use Rattle.exr_huffman.proofs.Progress.{word_first, judged_few}
 
 -- how many words a token gives
 abbrev pub size_of : Token → ℕ

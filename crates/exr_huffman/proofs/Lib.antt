@@ -4,3 +4,4 @@ pub mod Unpacking
 pub mod Bounds
 pub mod Joined
 pub mod Held
+pub mod ByFronts

@@ -9,6 +9,8 @@ use Rattle.exr_codes.specs.Tables.{◌>>=◌}
 use Rattle.exr_codes.proofs.Intervals.{entry_at_is, entry_at_nothing}
 use Rattle.exr_huffman.specs.Tokens.{Token, word, more, token_at, token_of, run_token, run_entry, tokens_within, tokens_of, words_from, words_of}
 use Rattle.exr_huffman.specs.Blocks.{is_run, judged, data_words_of}
+use Rattle.exr_huffman.specs.Reading.{Progress}
+pub use Rattle.exr_huffman.specs.Reading.{last_from}
 use Rattle.exr_huffman.specs.declared.fault.HufFault.TheVariants.{RunFirst, TooMany, TooFew}
 
 -- ---- a token is not empty
@@ -78,11 +80,6 @@ tokens_of-none least lengths bits e = within_none (length bits) least lengths bi
 
 -- ---- the words of tokens behind others
 
-abbrev pub last_from : ℕ → List Token → ℕ
-last_from before [] = before
-last_from before (word w ∷ tokens) = last_from w tokens
-last_from before (more count ∷ tokens) = last_from before tokens
-
 pub words_from-append : (before : ℕ) (xs ys : List Token) → words_from before (xs ++ ys) ≡ words_from before xs ++ words_from (last_from before xs) ys
 unfolding words_from
 words_from-append before [] ys = refl
@@ -95,14 +92,6 @@ last_from-append before (word w ∷ xs) ys = last_from-append w xs ys
 last_from-append before (more count ∷ xs) ys = last_from-append before xs ys
 
 -- ---- how far the reading has come
-
--- the tokens read so far, with their words, and the bits behind them
-pub record Progress (least : ℕ) (lengths : List ℕ) (wanted : ℕ) (all rest : List Bool) (words : List ℕ) (before : ℕ) : Type 0 where
-  pub done : List Token
-  pub tokens : tokens_of least lengths all ≡ (done ++ (tokens_of least lengths rest).0, (tokens_of least lengths rest).1)
-  pub spelled : words_of done ≡ words
-  pub last : last_from 0 done ≡ before
-  pub earlier : length (words_of (take (length done - 1) done)) < wanted
 
 pub begun : (least : ℕ) (lengths : List ℕ) (wanted : ℕ) (all : List Bool) → 0 < wanted → Progress least lengths wanted all all [] 0
 unfolding words_from

@@ -3,3 +3,5 @@ pub mod Blocks
 pub mod Joined
 pub mod Nexts
 pub mod Parts
+pub mod Fronts
+pub mod Reading

@@ -7,9 +7,11 @@ ghost use Rattle.exr_codes.specs.Codes.{IsComplete, entry_at};
 ghost use Rattle.exr_codes.specs.Windows.{IsCodeAt};
 ghost use Rattle.exr_huffman.specs.Blocks.{data_bits, data_words_of, is_run};
 ghost use Rattle.exr_codes.specs.Rest.{rest_at};
+ghost use Rattle.exr_huffman.specs.Fronts.{AreFronts};
 ghost use Rattle.exr_huffman.specs.Nexts.{IsNext, data_rest};
 
 use crate::fault::HufFault;
+use crate::fronts::{Front, fronts_of, take_fronts};
 use exr_base::Refusal;
 use exr_codes::{Decoder, Found, Window};
 use std::alloc::Global;
@@ -138,10 +140,12 @@ fn fill_words(
     window: &mut Window<'_>,
     bits: u64,
     decoder: &Decoder,
+    fronts: &[Front],
     least: u32,
     run: u32,
 ) -> Result<(), HufFault>
     requires complete { IsComplete decoder.now }
+    requires fronts { AreFronts least decoder.now fronts.now }
     requires run { length decoder.now ≡ run + 1 }
     requires range { least + run ≤ 65536 }
     requires front { window.old.at ≡ 0 }
@@ -159,9 +163,9 @@ fn fill_words(
         }
         match next_token(decoder, window, bits, least, run) {
             Next::Word(word) => {
-                before = word;
                 words[count] = word;
-                count += 1;
+                count = take_fronts(words, count + 1, window, bits, fronts, decoder, least);
+                before = words[count - 1];
             }
             Next::More(more) => {
                 if more as usize > words.len() - count {
@@ -206,8 +210,9 @@ pub(crate) fn data_words(
     if 3 * wanted as u64 > 85 * bits {
         return Err(Refusal::Fault(HufFault::TooFew));
     }
+    let fronts = fronts_of(alloc, decoder, least, run, bits, wanted)?;
     let mut words = vec![in alloc; 0u16; wanted]?;
-    match fill_words(&mut words, &mut window, bits, decoder, least, run) {
+    match fill_words(&mut words, &mut window, bits, decoder, &fronts, least, run) {
         Ok(()) => Ok(words),
         Err(fault) => Err(Refusal::Fault(fault)),
     }

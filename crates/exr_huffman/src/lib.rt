@@ -4,6 +4,7 @@
 mod block;
 mod data;
 mod fault;
+mod fronts;
 
 pub use block::unpack;
 pub use fault::HufFault;

@@ -63,7 +63,9 @@ fn turn_plane(
     }
 }
 
-/// The planes of a channel, interleaved, of `nx` columns and `ny` lines.
+/// The planes of a channel, interleaved, of `nx` columns and `ny` lines. It is not inlined, so that the loops have registers
+/// of their own.
+#[inline(never)]
 fn turn_planes(words: &mut [u16], nx: usize, ny: usize, step: usize, way: Way, max: u16)
     requires spread { 1 ≤ step }
     requires size { length words.old ≡ nx * ny * step }

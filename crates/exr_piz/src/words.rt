@@ -17,7 +17,9 @@ pub(crate) fn put_words(bytes: &[u8], words: &mut [u16])
     }
 }
 
-/// Replaces each word, a rank, by the value of that rank, or by 0 where there is none, and writes it as bytes.
+/// Replaces each word, a rank, by the value of that rank, or by 0 where there is none, and writes it as bytes. It is not
+/// inlined, so that the loop has registers of its own.
+#[inline(never)]
 pub(crate) fn put_bytes(values: &[u16], words: &[u16], bytes: &mut [u8])
     requires { length bytes.old ≡ 2 * length words.now }
     ensures { bytes.new ≡ bytes_from (map (slice_index values.now) words.now) }

@@ -1,7 +1,9 @@
-use Rattle.std.proofs.Common.{◌≡◌, ◌<◌, length, take, List, ℕ, Ok, refl, ◌∙◌, subst, arith}
+use Rattle.std.proofs.Common.{◌≡◌, ◌+◌, ◌<◌, length, take, set, List, ℕ, Ok, refl, ◌∙◌, subst, arith}
 use Rattle.std.proofs.lemmas.List.{take_all, length-take-le, take_more_set, length-set}
 use Rattle.exr_huffman.specs.Blocks.{data_bits, data_words_of}
 use Rattle.exr_huffman.specs.Nexts.{data_rest}
+use Rattle.exr_huffman.specs.Reading.{Progress, HasRead}
+use Rattle.exr_huffman.proofs.ByFronts.{last_at}
 use Rattle.exr_huffman.proofs.Rested.{length-data_rest}
 use Rattle.exr_huffman.proofs.Progress.{begun, goes_on_word, goes_on_run, ends_few, ends_ok, ends_many, run_passes, token_at_none}
 use Rattle.exr_huffman.proofs.data.fill_words.Goals as goal
@@ -27,16 +29,24 @@ pub tokens-preserved-in-Word : goal.tokens-preserved-in-Word
 tokens-preserved-in-Word c =
     let a = c.args in
     let bytes = a.window.now.bytes.now in
+    let all = data_bits bytes a.bits in
+    let wanted = length a.words.now in
     let l = c.tokens in
-    let rest = data_rest bytes a.bits l.window.at in
+    let w = c.in-Word.word in
+    let taken = c.take_fronts-count in
     let size = length-take-le l.count l.words l.invariant.fewer in
     let inside : l.count < length l.words = omega (arith, l.invariant.fewer, c.if-count-words.false) in
     let token = rw l.invariant.bytes at c.in-Word.ensures.token in
+    let same = c.in-Word.ensures.bytes ∙ l.invariant.bytes in
+    let word_read : HasRead a.least a.decoder.now wanted all (data_rest bytes a.bits c.next_token.new.window.at) (take (l.count + 1) (set l.words l.count w)) = rw (take_more_set l.words l.count w inside) (record { before = w; so_far = goes_on_word a.least a.decoder.now wanted all (data_rest bytes a.bits l.window.at) (take l.count l.words) l.before w (data_rest bytes a.bits c.next_token.new.window.at) l.invariant.so_far (omega (arith, size, l.auto.words)) token }) in
+    let read = taken.ensures.read wanted all (omega (arith, length-set l.words l.count w, l.auto.words)) (rw same word_read) in
+    let end = taken.ensures.bytes ∙ same in
+    let so_far = subst (λ (bs : List ℕ). Progress a.least a.decoder.now wanted all (data_rest bs a.bits taken.new.window.at) (take taken.result taken.new.words) read.before) end read.so_far in
     record {
-      bytes = c.in-Word.ensures.bytes ∙ l.invariant.bytes;
-      within = c.in-Word.ensures.within;
-      fewer = rw length-set (omega arith);
-      so_far = rw (take_more_set l.words l.count c.in-Word.word inside) (goes_on_word a.least a.decoder.now (length a.words.now) (data_bits bytes a.bits) rest (take l.count l.words) l.before c.in-Word.word (data_rest bytes a.bits c.next_token.new.window.at) l.invariant.so_far (omega (arith, size, l.auto.words)) token);
+      bytes = end;
+      within = taken.ensures.within;
+      fewer = taken.ensures.room;
+      so_far = rw (last_at a.least a.decoder.now wanted all (data_rest bytes a.bits taken.new.window.at) taken.new.words taken.result read.before so_far (omega (arith, taken.ensures.more)) taken.ensures.room) so_far;
     }
 
 pub returns-then-more-words : goal.returns-then-more-words

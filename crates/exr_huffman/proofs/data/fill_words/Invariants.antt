@@ -1,7 +1,7 @@
 use Rattle.std.proofs.Common.{◌≡◌, ◌-◌, ◌≤◌, length, take}
 use Rattle.exr_huffman.specs.Blocks.{data_bits}
 use Rattle.exr_huffman.specs.Nexts.{data_rest}
-use Rattle.exr_huffman.proofs.Progress.{Progress}
+use Rattle.exr_huffman.specs.Reading.{Progress}
 use Rattle.exr_huffman.proofs.data.fill_words.Given as goal
 
 abbrev pub invariant-tokens : goal.invariant-tokens
