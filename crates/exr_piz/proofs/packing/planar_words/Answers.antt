@@ -1,5 +1,5 @@
-use Rattle.std.proofs.Common.{List, ℕ, length, drop, ap, ◌∙◌, ◌++◌, arith}
-use Rattle.std.proofs.lemmas.List.{length-append, length-take, length-drop}
+use Rattle.std.proofs.Common.{length, drop, ap, ◌∙◌, ◌++◌, arith}
+use Rattle.std.proofs.lemmas.List.{length-append, length-take}
 use Rattle.exr_planar.proofs.Moves.{planar_long}
 use Rattle.exr_piz.proofs.Repacked.{words_even}
 use Rattle.exr_piz.proofs.packing.planar_words.Goals as goal
