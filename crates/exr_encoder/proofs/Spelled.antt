@@ -118,6 +118,12 @@ zeros_from-some lengths at within none =
     let cut : drop at lengths ≡ 0 ∷ drop (at + 1) lengths = drop_more lengths at 0 within ∙ ap (λ l. l ∷ drop (at + 1) lengths) none in
     rw cut (zeros_at-some (drop (at + 1) lengths))
 
+-- the entries that are passed over have no code
+pub zeros_from-none : (lengths : List ℕ) (at k : ℕ) → k < zeros_at (drop at lengths) → get_or lengths (at + k) 0 ≡ 0
+zeros_from-none lengths at k below =
+    let n = zeros_at (drop at lengths) in
+    sym (get_or-drop at lengths k 0) ∙ sym (get_or-take n (drop at lengths) k 0 below) ∙ ap (λ (ls : List ℕ). get_or ls k 0) (zeros_in_front (drop at lengths)) ∙ get_or-replicate n k 0 0 below
+
 -- ---- the bits of a run
 
 pub zeros_bits-one : (count : ℕ) → count ≡ 1 → zeros_bits count ≡ bits_of 6 0

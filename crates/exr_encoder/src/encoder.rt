@@ -1,10 +1,10 @@
 //! The encoder of a complete table: the code of each entry as a number.
 
 ghost use Rattle.std.specs.Prelude.{◌≡◌, ℕ, ◌-◌, ◌/◌, ◌^◌, ◌<◌, ◌≤◌, List, length, take, slice_index, IfOk};
-ghost use Rattle.exr_codes.specs.Codes.{IsComplete, code_number, count_of};
+ghost use Rattle.exr_codes.specs.Codes.{IsComplete, code_number, count_of, weight_above};
 
+use crate::table::zeros_from;
 use exr_base::NoMemory;
-use exr_codes::starts_of;
 use std::alloc::Global;
 use std::marker::Model;
 
@@ -15,33 +15,47 @@ pub struct Code {
     pub len: u32,
 }
 
-/// Where the codes of each length begin, as numbers of that length.
-fn firsts_of(starts: &[u64; 59]) -> [u64; 59]
-    ensures { (len : ℕ) → len ≤ 58 → slice_index result len ≡ slice_index starts.now len / 2 ^ (58 - len) }
-{
-    let mut firsts = [0u64; 59];
-    for len in 0..59 {
-        firsts[len] = starts[len] >> (58 - len);
-    }
-    firsts
-}
-
-/// Which of the codes of its length each entry has.
-fn put_ranks(lengths: &[u8], ranks: &mut [u32])
+/// Which of the codes of its length each entry has. Gives how many codes there are of each length.
+fn put_ranks(lengths: &[u8], ranks: &mut [u32]) -> [u32; 59]
     requires short { (k : ℕ) → slice_index lengths.now k ≤ 58 }
     requires few { length lengths.now < 2 ^ 32 }
     requires size { length ranks.old ≡ length lengths.now }
-    ensures { (k : ℕ) → 0 < slice_index lengths.now k → slice_index ranks.new k ≡ count_of (slice_index lengths.now k) (take k lengths.now) }
+    ensures ranks { (k : ℕ) → 0 < slice_index lengths.now k → slice_index ranks.new k ≡ count_of (slice_index lengths.now k) (take k lengths.now) }
+    ensures counts { (len : ℕ) → 0 < len → len ≤ 58 → slice_index result len ≡ count_of len lengths.now }
 {
     let mut counts = [0u32; 59];
-    for (entry, len) in lengths.iter().enumerate() {
-        let len = *len as usize;
+    let mut entry = 0;
+    'entries: while entry < lengths.len() {
+        let len = lengths[entry] as usize;
         if len > 0 {
             let rank = counts[len];
             ranks[entry] = rank;
             counts[len] = rank + 1;
+            entry += 1;
+        } else {
+            entry += zeros_from(lengths, entry);
         }
     }
+    counts
+}
+
+/// Where the codes of each length of a complete table begin, as numbers of that length, from how many there are of
+/// each length.
+fn firsts_of(lengths: &[u8], counts: &[u32; 59]) -> [u64; 59]
+    requires complete { IsComplete lengths.now }
+    requires counts { (len : ℕ) → 0 < len → len ≤ 58 → slice_index counts.now len ≡ count_of len lengths.now }
+    ensures { (len : ℕ) → len ≤ 58 → slice_index result len ≡ weight_above len lengths.now / 2 ^ (58 - len) }
+{
+    let _ = lengths;
+    let mut firsts = [0u64; 59];
+    let mut taken = 0u64;
+    let mut len = 58;
+    'lengths: while len > 0 {
+        taken += (counts[len] as u64) << (58 - len);
+        firsts[len - 1] = taken >> (59 - len);
+        len -= 1;
+    }
+    firsts
 }
 
 /// The encoder of a complete table, which contracts see as the table's lengths.
@@ -70,9 +84,9 @@ impl Encoder {
         requires few { length lengths.items < 2 ^ 32 }
         ensures { IfOk result (λ e. e ≡ lengths.items) }
     {
-        let firsts = firsts_of(&starts_of(&lengths).firsts);
         let mut ranks = vec![in alloc; 0u32; lengths.len()]?;
-        put_ranks(&lengths, &mut ranks);
+        let counts = put_ranks(&lengths, &mut ranks);
+        let firsts = firsts_of(&lengths, &counts);
         Ok(Encoder {
             lengths,
             firsts,

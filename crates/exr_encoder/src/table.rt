@@ -1,6 +1,6 @@
 //! Spelling a table of code lengths, item by item.
 
-ghost use Rattle.std.specs.Prelude.{◌≡◌, ℕ, ◌+◌, ◌-◌, ◌^◌, ◌<◌, ◌≤◌, ◌++◌, length, drop, slice_index, min, IfOk, OnOk};
+ghost use Rattle.std.specs.Prelude.{◌≡◌, ℕ, ◌+◌, ◌-◌, ◌^◌, ◌<◌, ◌≤◌, ◌++◌, IsTrue, length, drop, slice_index, min, IfOk, OnOk};
 ghost use Rattle.exr_base.specs.Bits.{bytes_of};
 ghost use Rattle.exr_encoder.specs.Spelling.{table_bits, zeros_at, zeros_bits};
 
@@ -14,13 +14,28 @@ fn most_zeros(left: usize) -> usize
     left.min(261)
 }
 
-/// Number of entries without a code from `at` on, at most 261.
-fn zeros_from(lengths: &[u8], at: usize) -> usize
+/// Whether none of the eight entries from `from` on has a code.
+fn is_clear(lengths: &[u8], from: usize) -> bool
+    requires { from + 8 ≤ length lengths.now }
+    ensures { IsTrue result → (k : ℕ) → k < 8 → slice_index lengths.now (from + k) ≡ 0 }
+{
+    let mut clear = true;
+    for k in 0..8 {
+        clear &= lengths[from + k] == 0;
+    }
+    clear
+}
+
+/// Number of entries without a code from `at` on, at most 261. Mostly many are, so eight are passed over at once.
+pub(crate) fn zeros_from(lengths: &[u8], at: usize) -> usize
     requires { at < length lengths.now }
     ensures { result ≡ zeros_at (drop at lengths.now) }
 {
     let most = most_zeros(lengths.len() - at);
     let mut count = 0;
+    'eights: while most - count >= 8 && is_clear(lengths, at + count) {
+        count += 8;
+    }
     'zeros: while count < most {
         if lengths[at + count] != 0 {
             return count;

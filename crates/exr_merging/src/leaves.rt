@@ -45,25 +45,11 @@ fn is_clear(weights: &[u32], from: usize) -> bool
     requires { from + 8 ≤ length weights.now }
     ensures { IsTrue result → (k : ℕ) → k < 8 → slice_index weights.now (from + k) ≡ 0 }
 {
-    let mut total = 0u64;
+    let mut clear = true;
     for k in 0..8 {
-        total += weights[from + k] as u64;
+        clear &= weights[from + k] == 0;
     }
-    total == 0
-}
-
-/// How many entries have a weight.
-fn entry_count(weights: &[u32]) -> u32
-    requires { length weights.now < 2 ^ 31 }
-    ensures { result ≡ count_by (λ weight. nat_lt 0 weight) weights.now }
-{
-    let mut count = 0;
-    for weight in weights {
-        if *weight > 0 {
-            count += 1;
-        }
-    }
-    count
+    clear
 }
 
 /// The entries that have a weight, in their order. Mostly few have one, so eight without are skipped at once.
@@ -71,7 +57,7 @@ fn entries_of(alloc: Global, weights: &[u32]) -> Result<Vec<Root>, NoMemory>
     requires { length weights.now < 2 ^ 31 }
     ensures { IfOk result (λ v. AreAmong v.items (leaves_from 0 weights.now)) }
 {
-    let mut entries = Vec::with_capacity(alloc, entry_count(weights) as usize)?;
+    let mut entries = Vec::new(alloc);
     let mut from = 0;
     'eights: while weights.len() - from >= 8 {
         if !is_clear(weights, from) {

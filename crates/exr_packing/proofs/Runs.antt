@@ -1,8 +1,9 @@
 -- Words that are equal, and the tokens and bits that they become.
 use Rattle.std.proofs.Common.{◌≡◌, ◌≢◌, ℕ, zero, suc, ◌+◌, ◌-◌, ◌*◌, ◌^◌, ◌<◌, ◌≤◌, Bool, eqb, List, [], ◌∷◌, ◌++◌, length, take, drop, get_or, replicate, refl, sym, ap, ◌∙◌, ap₂, inl, inr, arith, append_assoc, append-nil}
 use Rattle.std.specs.List.{prefix_len, sum_by}
-use Rattle.std.proofs.lemmas.Bool.{cases_lt, eq-eqb, ne_eqb, eqb-true, lt-ltb, le-ltb}
-use Rattle.std.proofs.lemmas.List.{length-append, length-take, length-drop, length-replicate, same_lists, get_or-take, get_or-replicate, drop_more, drop-drop}
+use Rattle.std.proofs.Math.Nat.{mul-le-mul_left}
+use Rattle.std.proofs.lemmas.Bool.{cases_lt, cases_eq, eq-eqb, ne_eqb, eqb-true, lt-ltb, le-ltb}
+use Rattle.std.proofs.lemmas.List.{length-append, length-take, length-drop, length-replicate, same_lists, get_or-take, get_or-drop, get_or-replicate, drop_more, drop-drop}
 use Rattle.std.proofs.lemmas.List.Concat.{flat_map-append}
 use Rattle.std.proofs.lemmas.List.Sums.{prefix_len-le-length, prefix_len_passes, prefix_len_is, sum_by-cons, sum_by-drop_more, sum_by-take-drop}
 use Rattle.exr_base.specs.Bits.{bits_of}
@@ -31,6 +32,26 @@ equals_in_front w words =
     let below : k < n = omega arith in
     let same : get_or words k d ≡ w = eqb-true (get_or words k d) w (prefix_len_passes (λ v. eqb v w) words k d (omega arith)) in
     get_or-take n words k d below ∙ same ∙ sym (get_or-replicate n k w d below))
+
+equal_behind : (w : ℕ) (words : List ℕ) (k : ℕ) → k < equals_at w words → get_or words k 0 ≡ w
+equal_behind w words k below =
+    let n = equals_at w words in
+    sym (get_or-take n words k 0 below) ∙ ap (λ (ws : List ℕ). get_or ws k 0) (equals_in_front w words) ∙ get_or-replicate n k w 0 below
+
+equals_two : (w : ℕ) (words : List ℕ) → 2 ≤ length words → get_or words 0 0 ≡ w → get_or words 1 0 ≡ w → 1 < equals_at w words
+unfolding equals_at
+equals_two w [] long first second = absurd (omega arith)
+equals_two w (a ∷ []) long first second = absurd (omega arith)
+equals_two w (a ∷ b ∷ words) long first second = rw (eq-eqb a w first, eq-eqb b w second) (omega arith)
+
+-- the same of words after a place
+pub equals_near : (words : List ℕ) (at k : ℕ) → k < equals_at (get_or words at 0) (drop (at + 1) words) → get_or words (at + 1 + k) 0 ≡ get_or words at 0
+equals_near words at k below = sym (get_or-drop (at + 1) words k 0) ∙ equal_behind (get_or words at 0) (drop (at + 1) words) k below
+
+pub two_equal : (words : List ℕ) (at : ℕ) → at + 2 < length words → get_or words (at + 1) 0 ≡ get_or words at 0 → get_or words (at + 2) 0 ≡ get_or words at 0 → 1 < equals_at (get_or words at 0) (drop (at + 1) words)
+two_equal words at within first second =
+    let near = λ (k place : ℕ) (is : at + 1 + k ≡ place). get_or-drop (at + 1) words k 0 ∙ ap (λ i. get_or words i 0) is in
+    equals_two (get_or words at 0) (drop (at + 1) words) (omega (arith, length-drop (at + 1) words)) (near 0 (at + 1) (omega arith) ∙ first) (near 1 (at + 2) (omega arith) ∙ second)
 
 equals_counted : (w : ℕ) (words : List ℕ) (count : ℕ) → count ≤ length words → count ≤ 255 → ((k : ℕ) → k < count → get_or words k 0 ≡ w) → (count < 255 → count < length words → get_or words count 0 ≢ w) → equals_at w words ≡ count
 unfolding equals_at
@@ -92,6 +113,53 @@ packed_at least lengths words at count within is =
     ap (packed_tokens least lengths) (drop_more words at 0 within) ∙ packed-word least lengths w behind
     ∙ ap₂ (λ n (rest : List ℕ). run_tokens least lengths w n ++ packed_tokens least lengths rest) (sym is) next
 
+-- ---- a word by itself, where at most one equal word comes after it
+
+run_alone : (least : ℕ) (lengths : List ℕ) (w count : ℕ) → count ≤ 1 → run_tokens least lengths w count ≡ replicate (count + 1) (word w)
+unfolding run_tokens
+run_alone least lengths w count few =
+    let len = get_or lengths (w - least) 0 in
+    let all : len * count ≤ len * 1 = mul-le-mul_left len few in
+    rw (le-ltb (len + get_or lengths (run_entry lengths) 0 + 8) (len * count) (omega (arith, all))) refl
+
+equals_more : (w : ℕ) (rest : List ℕ) → equals_at w (w ∷ rest) ≤ 1 → equals_at w rest ≡ 0
+unfolding equals_at
+equals_more w rest =
+    rw (eq-eqb w w refl) (λ few. omega (arith, few))
+
+equals_first : (w v : ℕ) (rest : List ℕ) → 0 < equals_at w (v ∷ rest) → v ≡ w
+equals_first w v rest some = equal_behind w (v ∷ rest) 0 some
+
+pub packed-alone : (least : ℕ) (lengths : List ℕ) (w : ℕ) (words : List ℕ) → equals_at w words ≤ 1 → packed_tokens least lengths (w ∷ words) ≡ run_tokens least lengths w 0 ++ packed_tokens least lengths words
+packed-alone least lengths w words few = elim (cases_eq (equals_at w words) 0) [
+  | inl none ↦ packed-word least lengths w words ∙ ap (λ n. run_tokens least lengths w n ++ packed_tokens least lengths (drop n words)) none
+  | inr other ↦ one words few (let e : equals_at w words ≡ 1 = omega arith in e)
+]
+  where
+    one : (words : List ℕ) → equals_at w words ≤ 1 → equals_at w words ≡ 1 → packed_tokens least lengths (w ∷ words) ≡ run_tokens least lengths w 0 ++ packed_tokens least lengths words
+    one [] few is = absurd (omega (arith, (equals_at-most w []).1))
+    one (v ∷ rest) few is =
+        let same : v ≡ w = equals_first w v rest (omega arith) in
+        let later = packed_tokens least lengths rest in
+        let few_w : equals_at w (w ∷ rest) ≤ 1 = rw same at few in
+        let none : equals_at v rest ≡ 0 = ap (λ u. equals_at u rest) same ∙ equals_more w rest few_w in
+        packed-word least lengths w (v ∷ rest) ∙ ap (λ n. run_tokens least lengths w n ++ packed_tokens least lengths (drop n (v ∷ rest))) is
+        ∙ ap (λ (front : List Token). front ++ later) (run_alone least lengths w 1 (omega arith))
+        ∙ ap (λ (back : List Token). word w ∷ back) (ap (λ (front : List Token). front ++ later) (sym (run_alone least lengths w 0 (omega arith))) ∙ sym (packed-word least lengths v rest ∙ ap (λ n. run_tokens least lengths v n ++ packed_tokens least lengths (drop n rest)) none ∙ ap (λ u. run_tokens least lengths u 0 ++ later) same))
+        ∙ ap (λ (front : List Token). front ++ packed_tokens least lengths (v ∷ rest)) (sym (run_alone least lengths w 0 (omega arith)))
+
+-- what is written at a place: the word there alone where at most one equal word comes after it, else with the equal ones
+pub packed_step : (least : ℕ) (lengths words : List ℕ) (at count : ℕ) → at < length words
+    → (1 < equals_at (get_or words at 0) (drop (at + 1) words) → count ≡ equals_at (get_or words at 0) (drop (at + 1) words)) → (equals_at (get_or words at 0) (drop (at + 1) words) ≤ 1 → count ≡ 0)
+    → packed_tokens least lengths (drop at words) ≡ run_tokens least lengths (get_or words at 0) count ++ packed_tokens least lengths (drop (at + (count + 1)) words)
+packed_step least lengths words at count within many few =
+    let w = get_or words at 0 in
+    let behind = drop (at + 1) words in
+    elim (cases_lt 1 (equals_at w behind)) [
+      | inl more ↦ packed_at least lengths words at count within (many more)
+      | inr alone ↦ ap (packed_tokens least lengths) (drop_more words at 0 within) ∙ packed-alone least lengths w behind alone ∙ sym (ap (λ n. run_tokens least lengths w n ++ packed_tokens least lengths (drop (at + (n + 1)) words)) (few alone))
+    ]
+
 -- ---- bits
 
 pub tokens_bits-append : (least : ℕ) (lengths : List ℕ) (xs ys : List Token) → tokens_bits least lengths (xs ++ ys) ≡ tokens_bits least lengths xs ++ tokens_bits least lengths ys
@@ -125,6 +193,11 @@ written_as_words least lengths w count more_bits =
     let len = get_or lengths (w - least) 0 in
     rw (le-ltb (len + get_or lengths (run_entry lengths) 0 + 8) (len * count) more_bits) (words_bits least lengths w (count + 1))
 
+pub written_alone : (least : ℕ) (lengths : List ℕ) (w count : ℕ) → count ≡ 0 → tokens_bits least lengths (run_tokens least lengths w count) ≡ code_of lengths (w - least)
+written_alone least lengths w count none =
+    let code = code_of lengths (w - least) in
+    ap (λ n. tokens_bits least lengths (run_tokens least lengths w n)) none ∙ written_as_words least lengths w 0 (omega arith) ∙ times_suc 0 code ∙ ap (λ (back : List Bool). code ++ back) (times_none code) ∙ append-nil code
+
 -- ---- what the codes take
 
 sum_equal : (f : ℕ → ℕ) (n w : ℕ) → sum_by f (replicate n w) ≡ f w * n
@@ -149,6 +222,27 @@ count_within words at count within is =
     let most = equals_at-most (get_or words at 0) (drop (at + 1) words) in
     let len = length-drop (at + 1) words in
     (omega arith, omega arith)
+
+cost_alone : (least : ℕ) (lengths words : List ℕ) (at : ℕ) → at < length words → cost_of least lengths (drop at words) ≡ get_or lengths (get_or words at 0 - least) 0 * (0 + 1) + cost_of least lengths (drop (at + (0 + 1)) words)
+unfolding cost_of
+cost_alone least lengths words at within = omega (arith, sum_by-drop_more (λ (v : ℕ). get_or lengths (v - least) 0) words at 0 within)
+
+-- the same of what is written at a place
+pub cost_step : (least : ℕ) (lengths words : List ℕ) (at count : ℕ) → at < length words
+    → (1 < equals_at (get_or words at 0) (drop (at + 1) words) → count ≡ equals_at (get_or words at 0) (drop (at + 1) words)) → (equals_at (get_or words at 0) (drop (at + 1) words) ≤ 1 → count ≡ 0)
+    → cost_of least lengths (drop at words) ≡ get_or lengths (get_or words at 0 - least) 0 * (count + 1) + cost_of least lengths (drop (at + (count + 1)) words)
+cost_step least lengths words at count within many few = elim (cases_lt 1 (equals_at (get_or words at 0) (drop (at + 1) words))) [
+  | inl more ↦ cost_at least lengths words at count within (many more)
+  | inr alone ↦ cost_alone least lengths words at within ∙ sym (ap (λ n. get_or lengths (get_or words at 0 - least) 0 * (n + 1) + cost_of least lengths (drop (at + (n + 1)) words)) (few alone))
+]
+
+pub step_within : (words : List ℕ) (at count : ℕ) → at < length words
+    → (1 < equals_at (get_or words at 0) (drop (at + 1) words) → count ≡ equals_at (get_or words at 0) (drop (at + 1) words)) → (equals_at (get_or words at 0) (drop (at + 1) words) ≤ 1 → count ≡ 0)
+    → (at + (count + 1) ≤ length words) × (count ≤ 255)
+step_within words at count within many few = elim (cases_lt 1 (equals_at (get_or words at 0) (drop (at + 1) words))) [
+  | inl more ↦ count_within words at count within (many more)
+  | inr alone ↦ (omega (arith, few alone), omega (arith, few alone))
+]
 
 -- ---- the data bits are no more than the codes
 

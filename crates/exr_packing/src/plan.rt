@@ -34,6 +34,27 @@ pub(crate) struct Plan {
     pub(crate) cost: u64,
 }
 
+/// The code lengths of words between the least and the greatest and of the run symbol, and how many bits the words'
+/// codes take. The weights are let go of, so that the encoder may take their memory.
+fn code_lengths(
+    alloc: Global,
+    words: &[u16],
+    least: u16,
+    greatest: u16,
+) -> Result<(Vec<u8>, u64), NoMemory>
+    requires some { 0 < length words.now }
+    requires most { length words.now ≤ 2 ^ 25 }
+    requires least { least ≡ least_of words.now }
+    requires greatest { greatest ≡ greatest_of words.now }
+    ensures lengths { IfOk result (λ found. found.0.items ≡ lengths_of words.now) }
+    ensures cost { IfOk result (λ found. found.1 ≡ cost_below (weights_of words.now) (lengths_of words.now) (length (weights_of words.now))) }
+{
+    let weights = weigh(alloc, words, least, greatest)?;
+    let lengths = lengths_by_merging(alloc, &weights)?;
+    let cost = cost(&weights, &lengths);
+    Ok((lengths, cost))
+}
+
 /// The plan for words between the least and the greatest.
 pub(crate) fn plan_for(
     alloc: Global,
@@ -49,10 +70,8 @@ pub(crate) fn plan_for(
     ensures encoder { IfOk result (λ plan. plan.encoder ≡ lengths_of words.now) }
     ensures cost { IfOk result (λ plan. plan.cost ≡ cost_below (weights_of words.now) (lengths_of words.now) (length (weights_of words.now))) }
 {
-    let weights = weigh(alloc, words, least, greatest)?;
-    let lengths = lengths_by_merging(alloc, &weights)?;
+    let (lengths, cost) = code_lengths(alloc, words, least, greatest)?;
     let table = write_table(alloc, &lengths)?;
-    let cost = cost(&weights, &lengths);
     let encoder = Encoder::new(alloc, lengths)?;
     Ok(Plan {
         table,

@@ -1,6 +1,6 @@
 //! The least and the greatest of a list of words, and how often each word occurs.
 
-ghost use Rattle.std.specs.Prelude.{◌≡◌, ℕ, ◌+◌, ◌-◌, ◌^◌, ◌<◌, ◌≤◌, length, slice_index, count_by, ◌==◌, IfOk, vec_len};
+ghost use Rattle.std.specs.Prelude.{◌≡◌, ℕ, ◌+◌, ◌-◌, ◌^◌, ◌<◌, ◌≤◌, length, slice_index, count_by, ◌==◌, if◌then◌else◌, IfOk, vec_len};
 ghost use Rattle.exr_packing.specs.Packed.{least_of, greatest_of, weights_of};
 
 use exr_base::NoMemory;
@@ -28,6 +28,22 @@ pub(crate) fn greatest_word(words: &[u16]) -> u16
     greatest
 }
 
+/// Counts two entries, which may be one and the same. Both counts are read before either is written, so that words which
+/// are repeated wait for one another only once in two words.
+#[inline(always)]
+fn count_two(counts: &mut [u32], first: usize, second: usize)
+    requires first { first < length counts.old }
+    requires second { second < length counts.old }
+    requires few { slice_index counts.old first + 2 < 2 ^ 32 }
+    requires small { slice_index counts.old second + 2 < 2 ^ 32 }
+    ensures { (k : ℕ) → slice_index counts.new k ≡ slice_index counts.old k + (if k == first then 1 else 0) + (if k == second then 1 else 0) }
+{
+    let one = counts[first];
+    let other = counts[second];
+    counts[first] = one + 1;
+    counts[second] = if first == second { one + 2 } else { other + 1 };
+}
+
 /// Counts how often each word occurs, from the least on.
 fn count_words(words: &[u16], least: u16, counts: &mut [u32])
     requires few { length words.now < 2 ^ 32 }
@@ -36,8 +52,15 @@ fn count_words(words: &[u16], least: u16, counts: &mut [u32])
     requires none { (k : ℕ) → slice_index counts.old k ≡ 0 }
     ensures { (k : ℕ) → k < length counts.new → slice_index counts.new k ≡ count_by (λ w. w == least + k) words.now }
 {
-    for word in words {
-        counts[(*word - least) as usize] += 1;
+    let mut at = 0;
+    'pairs: while words.len() - at >= 2 {
+        let first = (words[at] - least) as usize;
+        let second = (words[at + 1] - least) as usize;
+        count_two(counts, first, second);
+        at += 2;
+    }
+    if at < words.len() {
+        counts[(words[at] - least) as usize] += 1;
     }
 }
 

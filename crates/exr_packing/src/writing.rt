@@ -28,6 +28,25 @@ fn equals_after(words: &[u16], at: usize) -> usize
     count
 }
 
+/// Number of words that are written together with the word at place `at`: none where at most one word after it is equal
+/// to it, since a run of one never takes fewer bits, and else the equal ones, at most 255.
+fn repeats_after(words: &[u16], at: usize) -> usize
+    requires { at < length words.now }
+    ensures many { 1 < equals_at (slice_index words.now at) (drop (at + 1) words.now) → result ≡ equals_at (slice_index words.now at) (drop (at + 1) words.now) }
+    ensures few { equals_at (slice_index words.now at) (drop (at + 1) words.now) ≤ 1 → result ≡ 0 }
+{
+    if words.len() - at < 3 {
+        return 0;
+    }
+    let word = words[at];
+    let next = words[at + 1];
+    let second = words[at + 2];
+    if next != word || second != word {
+        return 0;
+    }
+    equals_after(words, at)
+}
+
 /// Writes a word and `count` more of it. There must be room for `count + 1` codes of it and eight bytes.
 fn put_words(encoder: &Encoder, pen: &mut Pen, out: &mut [u8], least: u16, word: u16, count: usize)
     requires complete { IsComplete encoder.now }
@@ -41,6 +60,10 @@ fn put_words(encoder: &Encoder, pen: &mut Pen, out: &mut [u8], least: u16, word:
     ensures on { 8 * pen.new.at + pen.new.have ≤ 8 * pen.old.at + pen.old.have + slice_index encoder.now (word - least) * (count + 1) }
 {
     let code = encoder.code((word - least) as usize);
+    if count == 0 {
+        pen.put(out, code.len, code.number);
+        return;
+    }
     let run = encoder.last_code();
     if ((code.len + run.len + 8) as usize) < code.len as usize * count {
         pen.put(out, code.len, code.number);
@@ -67,7 +90,7 @@ pub(crate) fn write_words(encoder: &Encoder, out: &mut [u8], least: u16, words: 
     let mut pen = Pen::new();
     let mut at = 0;
     'words: while at < words.len() {
-        let count = equals_after(words, at);
+        let count = repeats_after(words, at);
         put_words(encoder, &mut pen, out, least, words[at], count);
         at += count + 1;
     }

@@ -6,8 +6,8 @@ ghost use Rattle.std.specs.Int.{w32, to_le_bytes};
 ghost use Rattle.exr_base.specs.Shape.{IsShape, raw_size_of};
 ghost use Rattle.exr_huffman.specs.Blocks.{huffman_words_of};
 ghost use Rattle.exr_packing.specs.Packed.{pack_of};
-ghost use Rattle.exr_planar.specs.Planar.{raw_from_planar};
-ghost use Rattle.exr_piz.specs.Words.{bytes_from};
+ghost use Rattle.exr_planar.specs.Planar.{planar_of, raw_from_planar};
+ghost use Rattle.exr_piz.specs.Words.{words_from, bytes_from};
 ghost use Rattle.exr_piz.specs.Piz.{piz_of, packed_words_of, piz_pack_of};
 
 use crate::planes::{Way, turn_channels};
@@ -28,11 +28,24 @@ pub fn pack(alloc: Global, raw: &[u8], shape: &Shape) -> Result<Vec<u8>, NoMemor
     // What was packed unpacks to the same bytes.
     ensures restores { IfOk result (λ packed. piz_of shape.now.channels.now shape.now.region packed.items ≡ Ok raw.now) }
 {
-    let planar = to_planar(alloc, shape, raw)?;
+    let mut words = planar_words(alloc, shape, raw)?;
+    Ok(pack_words(alloc, shape, words.as_mut_slice())?)
+}
+
+/// The words of raw data, channel by channel. What they are read from is let go of, so that the block may take its memory.
+fn planar_words(alloc: Global, shape: &Shape, raw: &[u8]) -> Result<Vec<u16>, NoMemory>
+    requires shape { IsShape shape.now.channels.now shape.now.region }
+    requires size { length raw.now ≡ raw_size_of shape.now.channels.now shape.now.region }
+    ensures size { IfOk result (λ words. 2 * length words.items ≡ raw_size_of shape.now.channels.now shape.now.region) }
+    ensures exact { IfOk result (λ words. words.items ≡ words_from (planar_of shape.now.channels.now shape.now.region raw.now)) }
+    // The bytes of these words are the same.
+    ensures restores { IfOk result (λ words. raw_from_planar shape.now.channels.now shape.now.region (bytes_from words.items) ≡ raw.now) }
+{
     let mut words = vec![in alloc; 0u16; raw.len() / 2]?;
+    let planar = to_planar(alloc, shape, raw)?;
     let slice = words.as_mut_slice();
     put_words(&planar, slice);
-    Ok(pack_words(alloc, shape, slice)?)
+    Ok(words)
 }
 
 /// The packed data of words channel by channel, which are used up.

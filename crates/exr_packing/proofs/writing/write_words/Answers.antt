@@ -5,7 +5,7 @@ use Rattle.exr_encoder.specs.Writing.{written}
 use Rattle.exr_encoder.proofs.Pens.{written_nothing, length-written}
 use Rattle.exr_huffman.specs.Joined.{tokens_bits}
 use Rattle.exr_packing.specs.Packed.{run_tokens, packed_tokens}
-use Rattle.exr_packing.proofs.Runs.{cost_at, count_within, packed_at, packed-nothing, tokens_bits-append}
+use Rattle.exr_packing.proofs.Runs.{cost_step, step_within, packed_step, packed-nothing, tokens_bits-append}
 use Rattle.exr_packing.proofs.writing.write_words.Goals as goal
 
 pub words-init : goal.words-init
@@ -19,17 +19,17 @@ words-init c =
     }
 
 pub put_words-requires-clause-few : goal.put_words-requires-clause-few
-put_words-requires-clause-few c = omega (arith, count_within c.args.words.now c.words.at c.equals_after-count.result c.words-test.true c.equals_after-count.ensures)
+put_words-requires-clause-few c = omega (arith, step_within c.args.words.now c.words.at c.repeats_after-count.result c.words-test.true c.repeats_after-count.ensures.many c.repeats_after-count.ensures.few)
 
 pub put_words-requires-clause-room : goal.put_words-requires-clause-room
 put_words-requires-clause-room c =
-    omega (arith, c.words.invariant.room, c.requires.room, c.words.auto.out, cost_at c.args.least c.args.encoder.now c.args.words.now c.words.at c.equals_after-count.result c.words-test.true c.equals_after-count.ensures)
+    omega (arith, c.words.invariant.room, c.requires.room, c.words.auto.out, cost_step c.args.least c.args.encoder.now c.args.words.now c.words.at c.repeats_after-count.result c.words-test.true c.repeats_after-count.ensures.many c.repeats_after-count.ensures.few)
 
 pub overflow_add-at : goal.overflow_add-at
-overflow_add-at c = omega (arith, count_within c.args.words.now c.words.at c.equals_after-count.result c.words-test.true c.equals_after-count.ensures)
+overflow_add-at c = omega (arith, step_within c.args.words.now c.words.at c.repeats_after-count.result c.words-test.true c.repeats_after-count.ensures.many c.repeats_after-count.ensures.few)
 
 pub overflow_add-at-in-words : goal.overflow_add-at-in-words
-overflow_add-at-in-words c = omega (arith, count_within c.args.words.now c.words.at c.equals_after-count.result c.words-test.true c.equals_after-count.ensures, c.words.auto.at-fits)
+overflow_add-at-in-words c = omega (arith, step_within c.args.words.now c.words.at c.repeats_after-count.result c.words-test.true c.repeats_after-count.ensures.many c.repeats_after-count.ensures.few, c.words.auto.at-fits)
 
 pub words-preserved : goal.words-preserved
 words-preserved c =
@@ -37,8 +37,9 @@ words-preserved c =
     let lengths = a.encoder.now in
     let words = a.words.now in
     let l = c.words in
-    let count = c.equals_after-count.result in
-    let is = c.equals_after-count.ensures in
+    let count = c.repeats_after-count.result in
+    let many = c.repeats_after-count.ensures.many in
+    let few = c.repeats_after-count.ensures.few in
     let within = c.words-test.true in
     let w = get_or words l.at 0 in
     let before = written l.pen.at l.pen.have l.pen.pending l.out in
@@ -46,12 +47,12 @@ words-preserved c =
     let others = packed_tokens a.least lengths (drop (l.at + (count + 1)) words) in
     let later = tokens_bits a.least lengths others in
     record {
-      within = (count_within words l.at count within is).0;
-      room = omega (arith, c.put_words.ensures.on, l.invariant.room, cost_at a.least lengths words l.at count within is);
+      within = (step_within words l.at count within many few).0;
+      room = omega (arith, c.put_words.ensures.on, l.invariant.room, cost_step a.least lengths words l.at count within many few);
       so_far =
           ap (λ (front : List Bool). front ++ later) c.put_words.ensures.bits
           ∙ append_assoc before (tokens_bits a.least lengths tokens) later
-          ∙ ap (λ (back : List Bool). before ++ back) (sym (ap (tokens_bits a.least lengths) (packed_at a.least lengths words l.at count within is) ∙ tokens_bits-append a.least lengths tokens others))
+          ∙ ap (λ (back : List Bool). before ++ back) (sym (ap (tokens_bits a.least lengths) (packed_step a.least lengths words l.at count within many few) ∙ tokens_bits-append a.least lengths tokens others))
           ∙ l.invariant.so_far;
     }
 
