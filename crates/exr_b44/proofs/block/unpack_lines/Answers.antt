@@ -1,6 +1,7 @@
-use Rattle.std.proofs.Common.{arith}
+use Rattle.std.proofs.Common.{refl, arith}
+use Rattle.exr_b44.specs.Block.{channels_unpacked}
 use Rattle.exr_b44.proofs.Blocks.{is_short, is_long, is_whole}
-use Rattle.exr_b44.proofs.block.unpack_into.Goals as goal
+use Rattle.exr_b44.proofs.block.unpack_lines.Goals as goal
 
 pub returns-in-None : goal.returns-in-None
 returns-in-None c = is_short c.args.shape.now.channels.now c.args.shape.now.region c.args.packed.now c.in-None.ensures.none
@@ -10,4 +11,6 @@ returns-then-end-packed c = is_long c.args.shape.now.channels.now c.args.shape.n
 
 pub returns-else-end-packed : goal.returns-else-end-packed
 returns-else-end-packed c =
-    is_whole c.args.shape.now.channels.now c.args.shape.now.region c.args.packed.now c.unpack_channels.new.planar c.put_raw.new.into (omega (arith, c.in-Some.ensures.end, c.in-Some.ensures.none)) c.in-Some.ensures.samples c.put_raw.ensures.exact
+    let shape = c.args.shape.now in
+    is_whole shape.channels.now shape.region c.args.packed.now (channels_unpacked shape.region shape.channels.now c.args.packed.now) c.unpack_stripes.new.raw
+    (omega (arith, c.in-Some.ensures.end, c.in-Some.ensures.none)) refl c.in-Some.ensures.raw
