@@ -215,8 +215,7 @@ laying_done region channels packed raw i at first last long laid =
     let whole : take i channels ≡ channels = take_all i channels last in
     let front : take to planar ≡ planar = sym (append-nil (take to planar)) ∙ ap (λ cs. take to planar ++ channels_unpacked region cs (drop at packed)) (sym none) ∙ laid.begun.rest in
     let to_is : to ≡ raw_size_of channels region = ap (sum_by (channel_bytes_of region)) whole ∙ sym (by_channels region channels) in
-    let as_long : length planar ≡ raw_size_of channels region = sym (ap length front) ∙ length-take-le to planar laid.long ∙ to_is in
-    (
+    let as_long : length planar ≡ raw_size_of channels region = sym (ap length front) ∙ length-take-le to planar laid.long ∙ to_is in (
       (unpacking_done region channels packed planar i at to last as_long laid.begun).0,
       raw_whole_moved channels region planar raw raw long (record {
         size = refl;

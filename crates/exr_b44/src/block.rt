@@ -48,12 +48,7 @@ pub fn unpack(alloc: Global, packed: &[u8], shape: &Shape) -> Result<Vec<u8>, Re
 }
 
 /// The raw data of a region in which each channel has samples on each line, of so many bytes.
-fn unpack_lines(
-    packed: &[u8],
-    shape: &Shape,
-    line: usize,
-    raw: &mut [u8],
-) -> Result<(), B44Fault>
+fn unpack_lines(packed: &[u8], shape: &Shape, line: usize, raw: &mut [u8]) -> Result<(), B44Fault>
     requires shape { IsShape shape.now.channels.now shape.now.region }
     requires size { raw_size_of shape.now.channels.now shape.now.region ≤ 2 ^ 26 }
     requires each { AreOnEachLine shape.now.channels.now }
@@ -89,7 +84,14 @@ fn unpack_stripes(packed: &[u8], shape: &Shape, line: usize, raw: &mut [u8]) -> 
     let mut first = 0;
     for channel in shape.channels {
         let counts = counts_of(channel, region);
-        match unpack_channel(packed, at, channel.kind, counts, raw, Stripe { line, first }) {
+        match unpack_channel(
+            packed,
+            at,
+            channel.kind,
+            counts,
+            raw,
+            Stripe { line, first },
+        ) {
             None => return None,
             Some(end) => at = end,
         }

@@ -1,6 +1,6 @@
 //! Each sum of expected values is that of a slow program in another language, which packs and unpacks cell by cell.
 
-ghost use Rattle.std.specs.Prelude.{All, IfOk};
+ghost use Rattle.std.specs.Prelude.{◌≤◌, All, IfOk, length};
 ghost use Rattle.exr_base.specs.Shape.{IsRegion, IsSampled};
 ghost use Rattle.exr_b44.specs.Block.{IsPlain};
 
@@ -23,7 +23,11 @@ const ODD_LINES: Kinds = &[(Kind::Half, 1, 7)];
 fn channels_of(alloc: Global, kinds: Kinds) -> Result<Vec<Channel>, Fail>
     ensures sampled { IfOk result (λ channels. All IsSampled channels.items) }
     ensures plain { IfOk result (λ channels. All IsPlain channels.items) }
+    ensures few { IfOk result (λ channels. length channels.items ≤ 1024) }
 {
+    if kinds.len() > 8 {
+        return Err("too many channels".into());
+    }
     let mut channels = Vec::new(alloc);
     for (kind, xs, ys) in kinds {
         channels.push(Channel {
@@ -59,13 +63,9 @@ fn packed(
     bytes: &[u8],
 ) -> Result<Vec<u8>, Fail> {
     let channels = channels_of(alloc, kinds)?;
-    if channels.len() > 8 {
-        return Err("too many channels".into());
-    }
-    let region = region_of(columns, lines);
     let shape = Shape {
         channels: &channels,
-        region,
+        region: region_of(columns, lines),
     };
     let size = shape.raw_size();
     if size > 1 << 26 || size > bytes.len() as u64 {
@@ -83,22 +83,18 @@ fn unpacked(
     bytes: &[u8],
 ) -> Result<Result<Vec<u8>, B44Fault>, Fail> {
     let channels = channels_of(alloc, kinds)?;
-    if channels.len() > 8 {
-        return Err("too many channels".into());
-    }
-    let region = region_of(columns, lines);
     let shape = Shape {
         channels: &channels,
-        region,
+        region: region_of(columns, lines),
     };
     if shape.raw_size() > 1 << 26 {
         return Err("too large".into());
     }
-    match unpack(alloc, bytes, &shape) {
-        Ok(raw) => Ok(Ok(raw)),
-        Err(Refusal::Fault(fault)) => Ok(Err(fault)),
-        Err(Refusal::NoMemory) => Err("no memory".into()),
-    }
+    Ok(match unpack(alloc, bytes, &shape) {
+        Ok(raw) => Ok(raw),
+        Err(Refusal::Fault(fault)) => Err(fault),
+        Err(Refusal::NoMemory) => return Err("no memory".into()),
+    })
 }
 
 fn with_bytes(sum: u64, bytes: &[u8]) -> u64 {
@@ -213,7 +209,7 @@ fn grain(alloc: Global, size: usize, seed: u32) -> Result<Vec<u8>, Fail> {
     let mut state = seed;
     for k in 0..size {
         state = state.wrapping_mul(1664525).wrapping_add(1013904223);
-        let wide = (state >> (24 + k / 97 % 8)) as u8;
+        let wide = ((state >> (24 + k / 97 % 8)) & 0xff) as u8;
         bytes.push(if k % 2 == 0 { wide } else { 0x3c ^ (wide >> 5) })?;
     }
     Ok(bytes)
