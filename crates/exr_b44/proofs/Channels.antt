@@ -74,7 +74,7 @@ module _ (region : Box2i) (channels : List Channel) (packed planar : List ℕ) (
   unfolding channel_len
   len_is = λ k. packed_len c.kind (columns k) (rows k) (drop at packed)
 
-  unpacked_is : unpacked c.kind counts.columns counts.rows (drop at packed) ≡ channel_unpacked region c (drop at packed)
+  pub unpacked_is : unpacked c.kind counts.columns counts.rows (drop at packed) ≡ channel_unpacked region c (drop at packed)
   unfolding channel_unpacked
   unpacked_is = λ k. unpacked c.kind (columns k) (rows k) (drop at packed)
 
@@ -82,7 +82,7 @@ module _ (region : Box2i) (channels : List Channel) (packed planar : List ℕ) (
   unfolding channels_len
   rest_is = ap (λ cs. channels_len region cs (drop at packed)) (first_rest channels c i inside item)
 
-  rest_unpacked : channels_unpacked region (drop i channels) (drop at packed)
+  pub rest_unpacked : channels_unpacked region (drop i channels) (drop at packed)
       ≡ channel_unpacked region c (drop at packed) ++ channels_unpacked region (drop (i + 1) channels) (drop (channel_len region c (drop at packed)) (drop at packed))
   unfolding channels_unpacked
   rest_unpacked = ap (λ cs. channels_unpacked region cs (drop at packed)) (first_rest channels c i inside item)

@@ -7,6 +7,7 @@ pub mod Depths
 pub mod Written
 pub mod Taken
 pub mod Channels
+pub mod Stripes
 pub mod Blocks
 pub mod RoundTrip
 pub mod Worked

@@ -1,16 +1,16 @@
 -- A plane by the places of its bytes.
-use Rattle.std.proofs.Common.{◌≡◌, ℕ, zero, suc, ◌+◌, ◌-◌, ◌*◌, ◌/◌, ◌%◌, ◌<◌, ◌≤◌, inl, inr, min, cond, eqb, List, [], ◌∷◌, length, get_or, drop, map, refl, sym, ap, ◌∙◌, arith}
+use Rattle.std.proofs.Common.{◌≡◌, ℕ, zero, suc, ◌+◌, ◌-◌, ◌*◌, ◌/◌, ◌%◌, ◌<◌, ◌≤◌, inl, inr, min, cond, eqb, List, [], ◌∷◌, length, get_or, take, drop, map, refl, sym, ap, ◌∙◌, arith}
 use Rattle.std.specs.List.{range_with_len}
 use Rattle.std.proofs.lemmas.Bool.{cases_lt}
-use Rattle.std.proofs.lemmas.Nat.{div-mul-add, mod-mul-add, mul-add-lt, div_below, div-add-mod', mod_below}
+use Rattle.std.proofs.lemmas.Nat.{div-mul-add, mod-mul-add, mul-add-lt}
 use Rattle.std.proofs.Math.Nat.{mul-le-mul_right}
-use Rattle.std.proofs.lemmas.List.{ext_get_or, drop-drop}
+use Rattle.std.proofs.lemmas.List.{drop-drop, get_or-take, get_or-drop}
 use Rattle.std.proofs.lemmas.List.FromFn.{get_or-map-range_with_len, length-map-range_with_len}
 use borrow.Rule.Slice.PartMut.{put_mid}
 use Rattle.exr_b44.specs.Cell.{cell_len, uncell_of, bytes_of_halves}
-use Rattle.exr_b44.specs.Lines.{LinesPut}
+use Rattle.exr_b44.specs.Lines.{LinesPut, AreOthersKept, RowsPut}
 use Rattle.exr_b44.specs.Plane.{cells_for, cells_len, cell_at, half_at, plane_of}
-use Rattle.exr_b44.proofs.Rows.{in_part, before_part}
+use Rattle.exr_b44.proofs.Rows.{in_part, before_part, behind_part}
 
 -- ---- cells one behind the other
 
@@ -63,62 +63,95 @@ band_end packed from m n at is =
 
 -- ---- a band
 
--- the bytes of a band's lines before column `upto`
-pub record BandPut (rows z : List ℕ) (wide lines upto : ℕ) : Type 0 where
-  pub placed : (y b : ℕ) → y < lines → b < wide → b < upto → get_or rows (y * wide + b) 0 ≡ get_or (bytes_of_halves (cell_at z (b / 8))) (8 * y + b % 8) 0
+-- the bytes of a band's rows before column `upto`; no byte beside the rows is changed
+pub record BandPut (old lines z : List ℕ) (line first wide count upto : ℕ) : Type 0 where
+  pub placed : (y b : ℕ) → y < count → b < wide → b < upto → get_or lines (y * line + (first + b)) 0 ≡ get_or (bytes_of_halves (cell_at z (b / 8))) (8 * y + b % 8) 0
+  pub others : AreOthersKept old lines line first wide
 
-pub band_none : (rows z : List ℕ) (wide lines : ℕ) → BandPut rows z wide lines 0
-band_none rows z wide lines = record { placed = λ y b lt narrow before. absurd (omega arith) }
+pub band_none : (old z : List ℕ) (line first wide count : ℕ) → BandPut old old z line first wide count 0
+band_none old z line first wide count = record { placed = λ y b lt narrow before. absurd (omega arith); others = record { kept = λ y b lt apart. refl } }
 
-pub band_more : (cell rows new z : List ℕ) (wide lines i : ℕ) → cell ≡ bytes_of_halves (cell_at z i)
-    → BandPut rows z wide lines (8 * i) → LinesPut cell rows new wide (8 * i) (min 8 (wide - 8 * i)) lines → BandPut new z wide lines (8 * (i + 1))
-band_more cell rows new z wide lines i is before put = record {
+pub band_more : (cell old lines new z : List ℕ) (line first wide count i size : ℕ) → cell ≡ bytes_of_halves (cell_at z i) → first + wide ≤ line → 8 * i < wide → size ≡ min (wide - 8 * i) 8
+    → BandPut old lines z line first wide count (8 * i) → LinesPut cell lines new line (first + 8 * i) size count → BandPut old new z line first wide count (8 * (i + 1))
+band_more cell old lines new z line first wide count i size is fits inside sized before put = record {
   placed = λ y b lt narrow upto. elim (cases_lt b (8 * i)) [
-    | inl left ↦ put.others y b narrow (inr (inl left)) ∙ before.placed y b lt narrow left
+    | inl left ↦ put.others y (first + b) (omega arith) (inr (inl (omega arith))) ∙ before.placed y b lt narrow left
     | inr here ↦
         let column : b / 8 ≡ i = omega arith in
         let past : b % 8 ≡ b - 8 * i = omega arith in
-        let at : y * wide + b ≡ y * wide + (8 * i + (b - 8 * i)) = omega arith in
-        ap (λ k. get_or new k 0) at ∙ put.placed y (b - 8 * i) lt (omega arith) ∙ (λ j. get_or (is j) (8 * y + sym past j) 0)
+        let at : first + b ≡ first + 8 * i + (b - 8 * i) = omega arith in
+        ap (λ k. get_or new (y * line + k) 0) at ∙ put.placed y (b - 8 * i) lt (omega arith) ∙ (λ j. get_or (is j) (8 * y + sym past j) 0)
         ∙ ap (λ k. get_or (bytes_of_halves (cell_at z k)) (8 * y + b % 8) 0) (sym column)
   ];
+  others = record {
+    kept = λ y b lt apart.
+        put.others y b lt (inr (elim apart [ inl left ↦ inl (omega arith) | inr right ↦ inr (omega arith) ])) ∙ before.others.kept y b lt apart;
+  };
 }
 
 -- ---- a plane
 
--- the bytes of the first lines of a plane
-pub record PlanePut (rows z : List ℕ) (wide across lines : ℕ) : Type 0 where
-  pub placed : (y b : ℕ) → y < lines → b < wide → get_or rows (y * wide + b) 0 ≡ get_or (bytes_of_halves (cell_at z (y / 4 * across + b / 8))) (8 * (y % 4) + b % 8) 0
+-- the bytes of the first rows of a plane; no byte beside the rows is changed
+pub record PlanePut (old lines z : List ℕ) (line first wide across rows : ℕ) : Type 0 where
+  pub placed : (y b : ℕ) → y < rows → b < wide → get_or lines (y * line + (first + b)) 0 ≡ get_or (bytes_of_halves (cell_at z (y / 4 * across + b / 8))) (8 * (y % 4) + b % 8) 0
+  pub others : AreOthersKept old lines line first wide
 
-pub plane_none : (rows z : List ℕ) (wide across : ℕ) → PlanePut rows z wide across 0
-plane_none rows z wide across = record { placed = λ y b lt narrow. absurd (omega arith) }
+pub plane_none : (old z : List ℕ) (line first wide across : ℕ) → PlanePut old old z line first wide across 0
+plane_none old z line first wide across = record { placed = λ y b lt narrow. absurd (omega arith); others = record { kept = λ y b lt apart. refl } }
 
 -- one band more
-pub plane_more : (packed rows new : List ℕ) (from at wide across band lines first len upto : ℕ) → at ≡ from + cells_len (band * across) (drop from packed)
-    → first ≡ 4 * band * wide → len ≡ lines * wide → length new ≡ len → first + len ≤ length rows → upto ≤ 4 * band + lines → lines ≤ 4
-    → PlanePut rows (drop from packed) wide across (4 * band) → BandPut new (drop at packed) wide lines wide
-    → PlanePut (put_mid first len rows new) (drop from packed) wide across upto
-plane_more packed rows new from at wide across band lines first len upto is begins counted long inside most few before here = record {
+pub plane_more : (packed old lines band_old new : List ℕ) (from at line first wide across band count top len upto : ℕ) → at ≡ from + cells_len (band * across) (drop from packed)
+    → top ≡ 4 * band * line → len ≡ count * line → length new ≡ len → top + len ≤ length lines → first + wide ≤ line → upto ≤ 4 * band + count → count ≤ 4
+    → band_old ≡ take len (drop top lines) → PlanePut old lines (drop from packed) line first wide across (4 * band) → BandPut band_old new (drop at packed) line first wide count wide
+    → PlanePut old (put_mid top len lines new) (drop from packed) line first wide across upto
+plane_more packed old lines band_old new from at line first wide across band count top len upto is begins counted long inside fits most few cut before here = record {
   placed = λ y b lt narrow. elim (cases_lt y (4 * band)) [
-    | inl earlier ↦
-        let row : (y + 1) * wide ≤ 4 * band * wide = mul-le-mul_right wide (omega arith) in
-        let ahead : y * wide + b < first = omega arith in
-        before_part rows new first len (y * wide + b) (omega arith) ahead ∙ before.placed y b earlier narrow
+    | inl earlier ↦ ahead y (first + b) earlier (omega arith) ∙ before.placed y b earlier narrow
     | inr later ↦
-        let line = y - 4 * band in
-        let in_band : line < lines = omega arith in
-        let fits : line * wide + b < lines * wide = omega (arith, mul-add-lt line wide b lines in_band narrow) in
-        let split : y ≡ 4 * band + line = omega arith in
-        let at_place : y * wide + b ≡ first + (line * wide + b) = ap (λ k. k * wide + b) split ∙ omega arith in
+        let row = y - 4 * band in
+        let in_band : row < count = omega arith in
         let quarter : y / 4 ≡ band = omega arith in
-        let rest : y % 4 ≡ line = omega arith in
-        ap (λ k. get_or (put_mid first len rows new) k 0) at_place
-        ∙ in_part rows new first len (line * wide + b) (omega arith) long (omega arith)
-        ∙ here.placed line b in_band narrow narrow
-        ∙ ap (λ cell. get_or (bytes_of_halves cell) (8 * line + b % 8) 0) (cell_of_band packed from (band * across) (b / 8) at is)
+        let rest : y % 4 ≡ row = omega arith in
+        within y (first + b) later in_band (omega arith)
+        ∙ here.placed row b in_band narrow narrow
+        ∙ ap (λ cell. get_or (bytes_of_halves cell) (8 * row + b % 8) 0) (cell_of_band packed from (band * across) (b / 8) at is)
         ∙ (λ j. get_or (bytes_of_halves (cell_at (drop from packed) (sym quarter j * across + b / 8))) (8 * sym rest j + b % 8) 0)
   ];
+  others = record {
+    kept = λ y b lt apart. elim (cases_lt y (4 * band)) [
+      | inl earlier ↦ ahead y b earlier lt ∙ before.others.kept y b lt apart
+      | inr later ↦ elim (cases_lt y (4 * band + count)) [
+        | inr behind ↦
+            let past : (4 * band + count) * line ≤ y * line = mul-le-mul_right line behind in
+            behind_part lines new top len (y * line + b) (omega arith) long (omega arith) ∙ before.others.kept y b lt apart
+        | inl in_band ↦
+            let row = y - 4 * band in
+            let whole : 4 * band + row ≡ y = omega arith in
+            let place : row * line + b < len = omega (arith, mul-add-lt row line b count (omega arith) lt) in
+            let back : top + (row * line + b) ≡ y * line + b = ap (λ k. k + (row * line + b)) begins ∙ lines_add band row line b ∙ ap (λ k. k * line + b) whole in
+            within y b later (omega arith) lt ∙ here.others.kept row b lt apart ∙ ap (λ l. get_or l (row * line + b) 0) cut
+            ∙ get_or-take len (drop top lines) (row * line + b) 0 place ∙ get_or-drop top lines (row * line + b) 0
+            ∙ ap (λ k. get_or lines k 0) back ∙ before.others.kept y b lt apart
+      ]
+    ];
+  };
 }
+  where
+    lines_add : (band row line b : ℕ) → 4 * band * line + (row * line + b) ≡ (4 * band + row) * line + b
+    lines_add band row line b = omega arith
+
+    ahead : (y b : ℕ) → y < 4 * band → b < line → get_or (put_mid top len lines new) (y * line + b) 0 ≡ get_or lines (y * line + b) 0
+    ahead y b earlier lt =
+        let row : (y + 1) * line ≤ 4 * band * line = mul-le-mul_right line (omega arith) in
+        before_part lines new top len (y * line + b) (omega arith) (omega arith)
+
+    within : (y b : ℕ) → 4 * band ≤ y → y - 4 * band < count → b < line → get_or (put_mid top len lines new) (y * line + b) 0 ≡ get_or new ((y - 4 * band) * line + b) 0
+    within y b later in_band lt =
+        let row = y - 4 * band in
+        let split : y ≡ 4 * band + row = omega arith in
+        let at_place : y * line + b ≡ top + (row * line + b) = ap (λ k. k * line + b) split ∙ sym (lines_add band row line b) ∙ ap (λ k. k + (row * line + b)) (sym begins) in
+        ap (λ k. get_or (put_mid top len lines new) k 0) at_place
+        ∙ in_part lines new top len (row * line + b) (omega arith) long (omega (arith, mul-add-lt row line b count in_band lt))
 
 -- a byte of halves
 abbrev part_of : ℕ → ℕ → ℕ
@@ -141,36 +174,31 @@ pub length-uncell_of : (z : List ℕ) → length (uncell_of z) ≡ 16
 unfolding uncell_of
 length-uncell_of z = refl
 
-some_width : (nx ny k : ℕ) → k < 2 * nx * ny → 0 < nx
-some_width nx ny k lt =
-    elim (cases_lt 0 nx) [
-      | inl some ↦ some
-      | inr none ↦ let e : nx ≡ 0 = omega arith in absurd (omega (arith, ap (λ n. 2 * n * ny) e))
-    ]
-
 half_of_place : (y nx b k : ℕ) → k ≡ y * (2 * nx) + b → k / 2 ≡ y * nx + b / 2
 half_of_place y nx b k e = omega arith
 
 same_parity : (y nx b k r : ℕ) → k ≡ y * (2 * nx) + b → (8 * r + b % 8) % 2 ≡ k % 2
 same_parity y nx b k r e = omega arith
 
--- all its bytes make the plane
-pub plane_by_place : (rows z : List ℕ) (nx ny : ℕ) → length rows ≡ 2 * nx * ny → PlanePut rows z (2 * nx) (cells_for nx) ny → rows ≡ plane_of nx ny z
+pub length-plane_of : (nx ny : ℕ) (z : List ℕ) → length (plane_of nx ny z) ≡ 2 * nx * ny
 unfolding plane_of
-plane_by_place rows z nx ny long put =
+length-plane_of nx ny z =
+    let f : ℕ → ℕ = λ n. half_at nx z (n % nx) (n / nx) in
+    let count : length (map f (range_with_len 0 (nx * ny))) ≡ nx * ny = length-map-range_with_len f 0 (nx * ny) in
+    omega (arith, length-bytes_of_halves (map f (range_with_len 0 (nx * ny))))
+
+-- each byte of the plane
+byte_of_plane : (z : List ℕ) (nx ny y b : ℕ) → y < ny → b < 2 * nx → get_or (plane_of nx ny z) (y * (2 * nx) + b) 0 ≡ get_or (bytes_of_halves (cell_at z (y / 4 * cells_for nx + b / 8))) (8 * (y % 4) + b % 8) 0
+unfolding plane_of
+byte_of_plane z nx ny y b row narrow =
     let f : ℕ → ℕ = λ n. half_at nx z (n % nx) (n / nx) in
     let halves = map f (range_with_len 0 (nx * ny)) in
     let count : length halves ≡ nx * ny = length-map-range_with_len f 0 (nx * ny) in
-    ext_get_or 0 rows (bytes_of_halves halves) (omega (arith, length-bytes_of_halves halves)) (λ k inside.
-    let wide = 2 * nx in
-    let some : 0 < nx = some_width nx ny k (omega arith) in
-    let y = k / wide in
-    let b = k % wide in
-    let here : k ≡ y * wide + b = sym (div-add-mod' k wide) in
-    let narrow : b < wide = mod_below k wide (omega arith) in
-    let row : y < ny = div_below k wide ny (omega arith) (omega arith) in
+    let k = y * (2 * nx) + b in
+    let here : k ≡ y * (2 * nx) + b = refl in
     let n : k / 2 ≡ y * nx + b / 2 = half_of_place y nx b k here in
     let within : b / 2 < nx = omega arith in
+    let inside : y * nx + b / 2 < nx * ny = mul-add-lt y nx (b / 2) ny row within in
     let column : (k / 2) % nx ≡ b / 2 = ap (λ m. m % nx) n ∙ mod-mul-add y nx (b / 2) within in
     let line : (k / 2) / nx ≡ y = ap (λ m. m / nx) n ∙ div-mul-add y nx (b / 2) within in
     let cell = cell_at z (y / 4 * cells_for nx + b / 8) in
@@ -183,7 +211,10 @@ plane_by_place rows z nx ny long put =
     (λ i. get_or (cell_at z (y / 4 * cells_for nx + across i)) (place i) 0) ∙ (λ i. half_at nx z (sym column i) (sym line i))
     ∙ sym (get_or-map-range_with_len f 0 (nx * ny) (k / 2) (k / 2) 0 (omega arith) first)
     in
-    ap (λ i. get_or rows i 0) here ∙ put.placed y b row narrow
-    ∙ byte_of cell j (omega (arith, length-uncell_of (drop (cells_len (y / 4 * cells_for nx + b / 8) z) z)))
-    ∙ (λ i. cond (eqb (parity i) 0) (half i % 256) (half i / 256))
-    ∙ sym (byte_of halves k (omega arith)))
+    byte_of halves k (omega arith)
+    ∙ (λ i. cond (eqb (sym parity i) 0) (sym half i % 256) (sym half i / 256))
+    ∙ sym (byte_of cell j (omega (arith, length-uncell_of (drop (cells_len (y / 4 * cells_for nx + b / 8) z) z))))
+
+-- all its bytes make the plane
+pub plane_rows : (old lines z : List ℕ) (line first nx ny : ℕ) → PlanePut old lines z line first (2 * nx) (cells_for nx) ny → RowsPut (plane_of nx ny z) old lines line first (2 * nx) ny
+plane_rows old lines z line first nx ny put = record { placed = λ y b lt narrow. put.placed y b lt narrow ∙ sym (byte_of_plane z nx ny y b lt narrow); others = put.others }

@@ -5,18 +5,21 @@ ghost use Rattle.std.specs.List.{sum_by};
 ghost use Rattle.exr_base.specs.Refusal.{Gives};
 ghost use Rattle.exr_base.specs.Shape.{IsShape, raw_size_of};
 ghost use Rattle.exr_b44.specs.Block.{IsPlain, channels_len, channels_unpacked, channels_packed, b44_of, b44_pack_of, kept_of};
-ghost use Rattle.exr_b44.specs.Sizes.{most_of};
+ghost use Rattle.exr_b44.specs.Sizes.{AreOnEachLine, row_len_of, most_of};
+ghost use Rattle.exr_planar.specs.Planar.{raw_from_planar};
 
 use crate::channel::{pack_channel, unpack_channel};
 use crate::fault::B44Fault;
-use crate::sizes::{counts_of, least_size, most_size, raw_len};
+use crate::sizes::{counts_of, least_size, line_len, most_size, raw_len, row_len};
+use crate::stripe::Stripe;
 use exr_base::{NoMemory, Refusal, Shape};
 use exr_planar::{put_planar, put_raw};
 use std::alloc::Global;
 
 /// The raw data of a region that packed data stands for: of B44 and of B44A, which differ in packing alone. Short comes
 /// exactly where the data ends before the last sample, Long exactly where bytes are left. Data that is too short for cells
-/// of three bytes takes no memory; else at most twice the raw bytes are held.
+/// of three bytes takes no memory; else at most twice the raw bytes are held, and no more than the raw bytes where each
+/// channel has samples on each line.
 ///
 /// Technical Introduction, "Data Compression"; the bytes are this project's (own).
 pub fn unpack(alloc: Global, packed: &[u8], shape: &Shape) -> Result<Vec<u8>, Refusal<B44Fault>>
@@ -30,16 +33,75 @@ pub fn unpack(alloc: Global, packed: &[u8], shape: &Shape) -> Result<Vec<u8>, Re
         return Err(Refusal::Fault(B44Fault::Short));
     }
     let size = shape.raw_size() as usize;
-    let mut planar = vec![in alloc; 0u8; size]?;
     let mut raw = vec![in alloc; 0u8; size]?;
-    match unpack_into(packed, shape, &mut planar, &mut raw) {
+    if let Some(line) = line_len(shape) {
+        return match unpack_lines(packed, shape, line, &mut raw) {
+            Ok(()) => Ok(raw),
+            Err(fault) => Err(Refusal::Fault(fault)),
+        };
+    }
+    let mut planar = vec![in alloc; 0u8; size]?;
+    match unpack_planes(packed, shape, &mut planar, &mut raw) {
         Ok(()) => Ok(raw),
         Err(fault) => Err(Refusal::Fault(fault)),
     }
 }
 
-/// The raw data of a region that packed data stands for. The planes of its channels are laid out first.
-fn unpack_into(
+/// The raw data of a region in which each channel has samples on each line, of so many bytes.
+fn unpack_lines(packed: &[u8], shape: &Shape, line: usize, raw: &mut [u8]) -> Result<(), B44Fault>
+    requires shape { IsShape shape.now.channels.now shape.now.region }
+    requires size { raw_size_of shape.now.channels.now shape.now.region ≤ 2 ^ 26 }
+    requires each { AreOnEachLine shape.now.channels.now }
+    requires line { line ≡ sum_by (row_len_of shape.now.region) shape.now.channels.now }
+    requires raw { length raw.old ≡ raw_size_of shape.now.channels.now shape.now.region }
+    ensures { MatchResult result (λ _. b44_of shape.now.channels.now shape.now.region packed.now ≡ Ok raw.new) (λ fault. b44_of shape.now.channels.now shape.now.region packed.now ≡ Err fault) }
+{
+    match unpack_stripes(packed, shape, line, raw) {
+        None => Err(B44Fault::Short),
+        Some(end) => {
+            if end < packed.len() {
+                return Err(B44Fault::Long);
+            }
+            Ok(())
+        }
+    }
+}
+
+/// The samples of all channels, each in its part of each line. Answers where they end in the packed data; None where they
+/// are not all there.
+fn unpack_stripes(packed: &[u8], shape: &Shape, line: usize, raw: &mut [u8]) -> Option<usize>
+    requires shape { IsShape shape.now.channels.now shape.now.region }
+    requires size { raw_size_of shape.now.channels.now shape.now.region ≤ 2 ^ 26 }
+    requires each { AreOnEachLine shape.now.channels.now }
+    requires line { line ≡ sum_by (row_len_of shape.now.region) shape.now.channels.now }
+    requires room { length raw.old ≡ raw_size_of shape.now.channels.now shape.now.region }
+    ensures none { MatchOption result (length packed.now < channels_len shape.now.region shape.now.channels.now packed.now) (λ end. end ≤ length packed.now) }
+    ensures end { IfSome result (λ end. end ≡ channels_len shape.now.region shape.now.channels.now packed.now) }
+    ensures raw { IfSome result (λ _. raw.new ≡ raw_from_planar shape.now.channels.now shape.now.region (channels_unpacked shape.now.region shape.now.channels.now packed.now)) }
+{
+    let region = shape.region;
+    let mut at = 0;
+    let mut first = 0;
+    for channel in shape.channels {
+        let counts = counts_of(channel, region);
+        match unpack_channel(
+            packed,
+            at,
+            channel.kind,
+            counts,
+            raw,
+            Stripe { line, first },
+        ) {
+            None => return None,
+            Some(end) => at = end,
+        }
+        first += row_len(channel.kind, counts);
+    }
+    Some(at)
+}
+
+/// The raw data of a region by the planes of its channels, which are laid out first.
+fn unpack_planes(
     packed: &[u8],
     shape: &Shape,
     planar: &mut [u8],
@@ -79,7 +141,10 @@ fn unpack_channels(packed: &[u8], shape: &Shape, planar: &mut [u8]) -> Option<us
     for channel in shape.channels {
         let counts = counts_of(channel, region);
         let size = raw_len(channel.kind, counts);
-        match unpack_channel(packed, at, channel.kind, counts, &mut planar[to..to + size]) {
+        let line = row_len(channel.kind, counts);
+        let stripe = Stripe { line, first: 0 };
+        let plane = &mut planar[to..to + size];
+        match unpack_channel(packed, at, channel.kind, counts, plane, stripe) {
             None => return None,
             Some(end) => at = end,
         }

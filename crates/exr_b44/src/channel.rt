@@ -2,11 +2,13 @@
 
 ghost use Rattle.std.specs.Prelude.{◌≡◌, ◌+◌, ◌*◌, ◌^◌, ◌<◌, ◌≤◌, ◌++◌, length, take, drop, MatchOption, IfSome};
 ghost use Rattle.exr_base.specs.Channel.{bytes_of};
+ghost use Rattle.exr_b44.specs.Lines.{RowsPut};
 ghost use Rattle.exr_b44.specs.Sizes.{most_len};
 ghost use Rattle.exr_b44.specs.Block.{packed_len, unpacked, packed_of};
 
 use crate::packing::pack_plane;
-use crate::unpacking::unpack_plane;
+use crate::stripe::Stripe;
+use crate::unpacking::unpack_halves;
 use exr_base::Kind;
 
 /// Columns and lines of a channel's samples.
@@ -16,42 +18,59 @@ pub(crate) struct Counts {
     pub(crate) rows: usize,
 }
 
-/// The samples of a channel, which begin at a place of packed data. Answers where they end; None where they are not all
-/// there, and then the samples may be anything.
+/// The samples of a channel, which begin at a place of packed data. Each row of them goes into a line, from the stripe's first
+/// byte on. Answers where they end; None where they are not all there, and then the stripe may hold anything.
 pub(crate) fn unpack_channel(
     packed: &[u8],
     from: usize,
     kind: Kind,
     counts: Counts,
-    samples: &mut [u8],
+    lines: &mut [u8],
+    stripe: Stripe,
 ) -> Option<usize>
     requires within { from ≤ length packed.now }
     requires narrow { counts.columns ≤ 2 ^ 20 }
     requires low { counts.rows ≤ 2 ^ 20 }
-    requires room { length samples.old ≡ counts.columns * counts.rows * bytes_of kind }
+    requires fits { stripe.first + counts.columns * bytes_of kind ≤ stripe.line }
+    requires few { length lines.old ≤ 2 ^ 26 }
+    requires room { length lines.old ≡ counts.rows * stripe.line }
     ensures none { MatchOption result (length packed.now < from + packed_len kind counts.columns counts.rows (drop from packed.now)) (λ end. end ≤ length packed.now) }
     ensures end { IfSome result (λ end. end ≡ from + packed_len kind counts.columns counts.rows (drop from packed.now)) }
-    ensures samples { IfSome result (λ _. samples.new ≡ unpacked kind counts.columns counts.rows (drop from packed.now)) }
+    ensures rows { IfSome result (λ _. RowsPut (unpacked kind counts.columns counts.rows (drop from packed.now)) lines.old lines.new stripe.line stripe.first (counts.columns * bytes_of kind) counts.rows) }
 {
     match kind {
-        Kind::Half => unpack_plane(packed, from, samples, counts.columns, counts.rows),
-        Kind::Uint => copy_samples(packed, from, samples),
-        Kind::Float => copy_samples(packed, from, samples),
+        Kind::Half => unpack_halves(packed, from, lines, stripe, counts.columns, counts.rows),
+        Kind::Uint => copy_samples(packed, from, lines, stripe, counts.columns * 4, counts.rows),
+        Kind::Float => copy_samples(packed, from, lines, stripe, counts.columns * 4, counts.rows),
     }
 }
 
-/// Samples that stand in packed data as they are. Answers where they end; None where they are not all there.
-fn copy_samples(packed: &[u8], from: usize, samples: &mut [u8]) -> Option<usize>
-    requires { from ≤ length packed.now }
-    ensures none { MatchOption result (length packed.now < from + length samples.old) (λ end. end ≤ length packed.now) }
-    ensures end { IfSome result (λ end. end ≡ from + length samples.old) }
-    ensures samples { IfSome result (λ _. samples.new ≡ take (length samples.old) (drop from packed.now)) }
+/// Rows of so many bytes that stand in packed data as they are. Answers where they end; None where they are not all there.
+fn copy_samples(
+    packed: &[u8],
+    from: usize,
+    lines: &mut [u8],
+    stripe: Stripe,
+    wide: usize,
+    rows: usize,
+) -> Option<usize>
+    requires within { from ≤ length packed.now }
+    requires fits { stripe.first + wide ≤ stripe.line }
+    requires few { length lines.old ≤ 2 ^ 26 }
+    requires room { length lines.old ≡ rows * stripe.line }
+    ensures none { MatchOption result (length packed.now < from + rows * wide) (λ end. end ≤ length packed.now) }
+    ensures end { IfSome result (λ end. end ≡ from + rows * wide) }
+    ensures rows { IfSome result (λ _. RowsPut (drop from packed.now) lines.old lines.new stripe.line stripe.first wide rows) }
 {
-    let size = samples.len();
+    let size = rows * wide;
     if packed.len() - from < size {
         return None;
     }
-    samples.copy_from_slice(&packed[from..from + size]);
+    for y in 0..rows {
+        let at = from + y * wide;
+        let to = y * stripe.line + stripe.first;
+        lines[to..to + wide].copy_from_slice(&packed[at..at + wide]);
+    }
     Some(from + size)
 }
 

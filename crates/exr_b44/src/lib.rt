@@ -10,6 +10,7 @@ mod lanes;
 mod packing;
 mod reading;
 mod sizes;
+mod stripe;
 mod unpacking;
 mod writing;
 

@@ -1,12 +1,12 @@
 //! How many bytes channels have, raw and packed.
 
-ghost use Rattle.std.specs.Prelude.{◌≡◌, ◌*◌, ◌^◌, ◌≤◌};
+ghost use Rattle.std.specs.Prelude.{◌≡◌, ◌*◌, ◌^◌, ◌≤◌, IfSome};
 ghost use Rattle.std.specs.List.{sum_by};
 ghost use Rattle.exr_base.specs.Channel.{bytes_of};
 ghost use Rattle.exr_base.specs.Shape.{IsShape, IsRegion, IsSampled, channel_bytes_of};
 ghost use Rattle.exr_b44.specs.Block.{columns_of, rows_of};
 ghost use Rattle.exr_b44.specs.Plane.{cells_for};
-ghost use Rattle.exr_b44.specs.Sizes.{least_len, most_len, least_of, most_of};
+ghost use Rattle.exr_b44.specs.Sizes.{AreOnEachLine, row_len_of, least_len, most_len, least_of, most_of};
 
 use crate::channel::Counts;
 use exr_base::{Box2i, Channel, Kind, Shape, sample_count};
@@ -24,6 +24,15 @@ pub(crate) fn counts_of(channel: &Channel, region: Box2i) -> Counts
         columns: sample_count(channel.xs, region.x0, region.x1) as usize,
         rows: sample_count(channel.ys, region.y0, region.y1) as usize,
     }
+}
+
+/// The bytes of a row of a channel.
+pub(crate) fn row_len(kind: Kind, counts: Counts) -> usize
+    requires narrow { counts.columns ≤ 2 ^ 20 }
+    ensures exact { result ≡ counts.columns * bytes_of kind }
+    ensures small { result ≤ 2 ^ 22 }
+{
+    counts.columns * kind.bytes()
 }
 
 /// The bytes of the samples of a channel.
@@ -100,4 +109,21 @@ pub(crate) fn most_size(shape: &Shape) -> u64
         size += most_len(channel.kind, counts_of(channel, region));
     }
     size
+}
+
+/// The bytes of each line of a region; None where a channel does not have samples on each line.
+pub(crate) fn line_len(shape: &Shape) -> Option<usize>
+    requires { IsShape shape.now.channels.now shape.now.region }
+    ensures each { IfSome result (λ _. AreOnEachLine shape.now.channels.now) }
+    ensures exact { IfSome result (λ line. line ≡ sum_by (row_len_of shape.now.region) shape.now.channels.now) }
+{
+    let region = shape.region;
+    let mut line = 0;
+    for channel in shape.channels {
+        if channel.ys != 1 {
+            return None;
+        }
+        line += row_len(channel.kind, counts_of(channel, region));
+    }
+    Some(line)
 }

@@ -6,7 +6,7 @@ use Rattle.exr_b44.proofs.unpacking.unpack_band.Goals as goal
 pub loop-i-init : goal.loop-i-init
 loop-i-init c =
     let z = drop c.args.from c.args.packed.now in
-    record { within = c.requires.within; cells = omega (arith, cells_len-none z); put = band_none c.args.rows.now z c.args.wide c.args.lines }
+    record { within = c.requires.within; cells = omega (arith, cells_len-none z); put = band_none c.args.lines.now z c.args.stripe.line c.args.stripe.first c.args.wide c.args.count }
 
 pub returns-in-None-clause-none : goal.returns-in-None-clause-none
 returns-in-None-clause-none c =
@@ -26,6 +26,6 @@ loop-i-preserved c =
     record {
       within = omega (arith, c.in-Some.ensures.none, c.in-Some.ensures.taken);
       cells = omega (arith, c.in-Some.ensures.taken);
-      put = band_more c.read_cell.new.into l.rows c.put_cell.new.rows (drop from packed) c.args.wide c.args.lines l.i
-          (c.in-Some.ensures.unpacked ∙ ap bytes_of_halves (cell_there packed from l.i l.at l.invariant.cells)) l.invariant.put c.put_cell.ensures;
+      put = band_more c.read_cell.new.into c.args.lines.now l.lines c.put_cell.new.lines (drop from packed) c.args.stripe.line c.args.stripe.first c.args.wide c.args.count l.i c.min-size.result
+          (c.in-Some.ensures.unpacked ∙ ap bytes_of_halves (cell_there packed from l.i l.at l.invariant.cells)) c.requires.fits (omega arith) (omega arith) l.invariant.put c.put_cell.ensures;
     }

@@ -7,5 +7,5 @@ abbrev pub invariant-loop-i : goal.invariant-loop-i
 invariant-loop-i l = record {
   within : l.at ≤ length l.packed;
   cells : l.at ≡ l.from + cells_len l.i (drop l.from l.packed);
-  put : BandPut l.rows (drop l.from l.packed) l.wide l.lines (8 * l.i);
+  put : BandPut l.initial.lines l.lines (drop l.from l.packed) l.stripe.line l.stripe.first l.wide l.count (8 * l.i);
 }

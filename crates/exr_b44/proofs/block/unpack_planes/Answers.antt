@@ -1,6 +1,6 @@
 use Rattle.std.proofs.Common.{arith}
 use Rattle.exr_b44.proofs.Blocks.{is_short, is_long, is_whole}
-use Rattle.exr_b44.proofs.block.unpack_into.Goals as goal
+use Rattle.exr_b44.proofs.block.unpack_planes.Goals as goal
 
 pub returns-in-None : goal.returns-in-None
 returns-in-None c = is_short c.args.shape.now.channels.now c.args.shape.now.region c.args.packed.now c.in-None.ensures.none
