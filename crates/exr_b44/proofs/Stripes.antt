@@ -13,10 +13,11 @@ use Rattle.exr_base.specs.declared.channel.Kind.{Kind}
 use Rattle.exr_base.specs.declared.channel.Kind.TheVariants.{Uint, Half, Float}
 use Rattle.exr_base.specs.Channel.{bytes_of, no_channel, channel_at}
 use Rattle.exr_base.specs.Shape.{height_of, row_bytes_of, lines_bytes_of, channel_bytes_of, raw_size_of}
+use Rattle.exr_base.proofs.Multiples.{each_place}
 use Rattle.exr_base.proofs.RawSize.{by_channels}
 use Rattle.exr_planar.specs.Planar.{raw_from_planar}
 use Rattle.exr_planar.proofs.Grid.{row_ordered}
-use Rattle.exr_planar.proofs.Orders.{row_size, raw_place, plane_place, raw_grid, planar_grid, lines_none, lines_suc, above_none, row_is, planar_row_is, each_place}
+use Rattle.exr_planar.proofs.Orders.{row_size, raw_place, plane_place, raw_grid, planar_grid, lines_none, lines_suc, above_none, row_is, planar_row_is}
 use Rattle.exr_planar.proofs.Moves.{raw_rows, planar_rows, raw_whole_moved}
 use Rattle.exr_b44.specs.declared.channel.Counts.{Counts}
 use Rattle.exr_b44.specs.Lines.{RowsPut}

@@ -19,7 +19,7 @@ returns-in_err-words-clause-exact c =
     rw (p.1, p.2) (refused_words c.args.shape.now.channels.now c.args.shape.now.region c.args.packed.now (parts_from c.in_ok-parts.parts) c.raw_size.result c.in_err-words.field-0.0 c.in_ok-parts.ensures.value c.raw_size.ensures c.in_err-words.ensures)
 
 pub restore-requires-clause-size : goal.restore-requires-clause-size
-restore-requires-clause-size c = omega (arith, ap length c.deref_mut.ensures.value, words_size c.args.shape.now.channels.now c.args.shape.now.region c.in_ok-parts.parts.block.now c.in_ok-words.words.items c.raw_size.result c.raw_size.ensures c.in_ok-words.ensures)
+restore-requires-clause-size c = omega (arith, words_size c.args.shape.now.channels.now c.args.shape.now.region c.in_ok-parts.parts.block.now c.in_ok-words.words.items c.raw_size.result c.raw_size.ensures c.in_ok-words.ensures)
 
 pub restore-requires-clause-some : goal.restore-requires-clause-some
 restore-requires-clause-some c = omega (arith, ap length c.deref.ensures.value, ap length c.in_ok-values.ensures, values_some c.in_ok-parts.parts.first c.in_ok-parts.parts.map.now)
@@ -36,5 +36,5 @@ returns-clause-exact c =
     restored_words channels region c.args.packed.now words parts c.raw_size.result c.in_ok-parts.ensures.value c.raw_size.ensures c.in_ok-words.ensures
     ∙ ap (λ (raw : List ℕ). Ok raw) (sym (
     c.in_ok-restore.ensures.exact
-    ∙ ap₂ (λ (values ranks : List ℕ). restored_from channels region values ranks) (c.deref.ensures.value ∙ c.in_ok-values.ensures) c.deref_mut.ensures.value
+    ∙ ap (λ (values : List ℕ). restored_from channels region values words) (c.deref.ensures.value ∙ c.in_ok-values.ensures)
     ))
