@@ -20,6 +20,20 @@ const SAMPLED: Kinds = &[(Kind::Half, 2, 2), (Kind::Float, 3, 2), (Kind::Half, 1
 
 const ODD_LINES: Kinds = &[(Kind::Half, 1, 7)];
 
+/// A channel, sampled by at least 1 each way.
+fn channel(kind: Kind, xs: u32, ys: u32) -> Result<Channel, Fail>
+    ensures sampled { IfOk result IsSampled }
+    ensures plain { IfOk result IsPlain }
+{
+    Ok(Channel {
+        name: Name::new(b"Z").ok_or("no name")?,
+        kind,
+        linear: 0,
+        xs: xs.max(1),
+        ys: ys.max(1),
+    })
+}
+
 fn channels_of(alloc: Global, kinds: Kinds) -> Result<Vec<Channel>, Fail>
     ensures sampled { IfOk result (λ channels. All IsSampled channels.items) }
     ensures plain { IfOk result (λ channels. All IsPlain channels.items) }
@@ -30,13 +44,7 @@ fn channels_of(alloc: Global, kinds: Kinds) -> Result<Vec<Channel>, Fail>
     }
     let mut channels = Vec::new(alloc);
     for (kind, xs, ys) in kinds {
-        channels.push(Channel {
-            name: Name::new(b"Z").ok_or("no name")?,
-            kind: *kind,
-            linear: 0,
-            xs: (*xs).max(1),
-            ys: (*ys).max(1),
-        })?;
+        channels.push(channel(*kind, *xs, *ys)?)?;
     }
     Ok(channels)
 }

@@ -28,10 +28,10 @@ overflow_add-taken c =
 
 pub lengths-preserved : goal.lengths-preserved
 lengths-preserved c =
-    let lengths = c.args.lengths.now in
-    let len = c.lengths.len in
-    let known = c.lengths.invariant in
     let some = c.lengths-test.true in
+    let known = c.lengths.invariant in
+    let len = c.lengths.len in
+    let lengths = c.args.lengths.now in
     let count = c.requires.counts len some known.small in
     let fits = weight_fits lengths len c.requires.complete some in
     let whole : count_of len lengths * 2 ^ (58 - len) % 2 ^ 64 ≡ count_of len lengths * 2 ^ (58 - len) = mod-eq_of_lt (omega arith) in
