@@ -106,7 +106,8 @@ const ONE_TEXT: &str = "\
 fn whole_text(rt: HostRuntime) -> Result<(), Fail> {
     let bytes = edited(rt.alloc(), ONE, &[])?;
     for end in 277..=bytes.len() {
-        let got = outcome_of(&rt, rt.alloc(), &["header", "in=a"], &bytes[..end], None)?;
+        let beginning = bytes.get(..end).ok_or("a beginning")?;
+        let got = outcome_of(&rt, rt.alloc(), &["header", "in=a"], beginning, None)?;
         assert_eq!(rt; got.stop, None);
         assert_eq!(rt; got.printed.as_slice(), ONE_TEXT.as_bytes());
     }

@@ -481,7 +481,8 @@ fn ends_of_files(rt: HostRuntime) -> Result<(), Fail> {
                 fault: ChunkFault::Outside,
             }
         };
-        check_stop(&rt, &bytes[..end], &[], Stop::File { file: 0, fault })?;
+        let beginning = bytes.get(..end).ok_or("a beginning")?;
+        check_stop(&rt, beginning, &[], Stop::File { file: 0, fault })?;
     }
     let longer = [bytes.as_slice(), b"more"].concat(rt.alloc())?;
     let got = extracted(&rt, rt.alloc(), &longer, &[], None)?;

@@ -26,6 +26,9 @@ pub enum Call {
 /// The call that is to fail: its kind, and its number among those of its kind, counted from 0.
 pub type Failing = Option<(Call, u64)>;
 
+/// How many bytes a file that is written has room for, and standard output.
+pub const ROOM: usize = 1 << 12;
+
 /// What came of a run: why it stopped if it did, what was written under `b`, what was printed, and the counts of failures.
 #[derive(Drop)]
 pub struct Outcome {
@@ -99,8 +102,8 @@ fn ran<R: Threads + Sync, W: World>(
         writes: Vec::new(alloc),
     };
     let prints = numbers(alloc, Call::Print, failing)?;
-    let mut files = MemFiles::<W>::new(alloc, files, 1 << 12, fails)?;
-    let mut out = MemSink::new(alloc, "", 1 << 12, prints, Vec::new(alloc))?;
+    let mut files = MemFiles::<W>::new(alloc, files, ROOM, fails)?;
+    let mut out = MemSink::new(alloc, "", ROOM, prints, Vec::new(alloc))?;
     let stop = run::<_, W, _, _, _>(rt, alloc, words, &mut files, &mut out, &PlainGate).err();
     let written = match files.kept("b") {
         Some(bytes) => Some(bytes.to_vec(alloc)?),

@@ -1,8 +1,8 @@
 //! The words, the calls that fail, and the statuses and lines of stops.
 
-use super::files::{File, ONE, PARTS, TILES, bytes_of};
+use super::files::{ONE, PARTS, TILES, bytes_of};
 use super::methods::ZEROS;
-use super::runs::{Call, Failing, extracted, outcome_of};
+use super::runs::{Call, ROOM, extracted, outcome_of};
 use exr_attributes::HeaderFault;
 use exr_block::ChunkFault;
 use exr_tools::{FileFault, RequestFault, Stop, stop_line};
@@ -124,6 +124,20 @@ fn calls_that_fail(rt: HostRuntime) -> Result<(), Fail> {
             assert!(rt; count >= least, "{call:?} {count}");
         }
     }
+    Ok(())
+}
+
+// Where the room of the file that is written is used up, a beginning of the samples stands in it.
+#[test]
+fn no_room(rt: HostRuntime) -> Result<(), Fail> {
+    let bytes = bytes_of(rt.alloc(), ONE)?;
+    let got = extracted(&rt, rt.alloc(), &bytes, &["pad=5000"], None)?;
+    assert_eq!(rt; got.stop, Some(Stop::Write));
+    assert_eq!(rt; (got.read_faults, got.write_faults), (0, 1));
+    assert!(rt; got.printed.is_empty());
+    let written = got.written.ok_or("a file")?;
+    assert_eq!(rt; written.len(), ROOM);
+    assert!(rt; written.starts_with(b"\0<\0\0"));
     Ok(())
 }
 

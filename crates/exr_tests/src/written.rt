@@ -4,7 +4,6 @@ use super::files::{BARE, FAR, File, KINDS, ONE, PARTS, SAMPLED, THREE, TILES, UN
 use super::methods::{CELLS, FLAT_CELLS, RUNS, ZEROS};
 use super::runs::{extracted, outcome_of};
 use exr_tools::Stop;
-use std::alloc::Global;
 use std::process::Abort;
 use std::test::Fail;
 use std::thread::Threads;
