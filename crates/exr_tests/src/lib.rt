@@ -3,18 +3,4 @@
 #![tactic(auto)]
 
 #[cfg(test)]
-mod edits;
-#[cfg(test)]
-mod files;
-#[cfg(test)]
-mod headers;
-#[cfg(test)]
-mod methods;
-#[cfg(test)]
-mod refused;
-#[cfg(test)]
-mod runs;
-#[cfg(test)]
-mod stops;
-#[cfg(test)]
-mod written;
+mod tests;

@@ -91,35 +91,13 @@ fn damaged_chunk<W: World, S: Source>(
     let shape = stream.shape(0, index);
     if method != Method::No && shape.raw_size() <= MOST {
         tally.chunks = tally.chunks.wrapping_add(1);
-        cut_off(alloc, method, &shape, &data, tally)?;
-        changed(alloc, method, &shape, &data, tally)?;
+        unpack_damaged(alloc, method, &shape, &data, tally)?;
     }
     Ok(true)
 }
 
-/// Unpacks each beginning of the data.
-fn cut_off(
-    alloc: Global,
-    method: Method,
-    shape: &Shape<'_>,
-    packed: &[u8],
-    tally: &mut Tally,
-) -> Result<(), Stop>
-    requires shape { IsShape shape.now.channels.now shape.now.region }
-    requires small { raw_size_of shape.now.channels.now shape.now.region ≤ 2 ^ 26 }
-{
-    for end in 0..packed.len() {
-        let beginning = Vec::from_slice(alloc, &packed[..end])?;
-        tally.cut = tally.cut.wrapping_add(1);
-        if !is_answered(alloc, method, shape, beginning)? {
-            tally.other = tally.other.wrapping_add(1);
-        }
-    }
-    Ok(())
-}
-
-/// Unpacks the data with one byte changed in every way, or with one bit changed.
-fn changed(
+/// Unpacks each beginning of the data, and the data with one byte changed in every way, or with one bit changed.
+fn unpack_damaged(
     alloc: Global,
     method: Method,
     shape: &Shape<'_>,
@@ -131,6 +109,9 @@ fn changed(
 {
     let bits_alone = method == Method::Piz || shape.raw_size() > MOST_CHANGED;
     for place in 0..packed.len() {
+        let beginning = Vec::from_slice(alloc, &packed[..place])?;
+        tally.cut = tally.cut.wrapping_add(1);
+        unpack(alloc, method, shape, beginning, &mut tally.other)?;
         for bits in 1..=255u8 {
             if bits_alone && bits.count_ones() != 1 {
                 continue;
@@ -140,33 +121,36 @@ fn changed(
                 *byte ^= bits;
             }
             tally.changed = tally.changed.wrapping_add(1);
-            if !is_answered(alloc, method, shape, changed)? {
-                tally.other = tally.other.wrapping_add(1);
-            }
+            unpack(alloc, method, shape, changed, &mut tally.other)?;
         }
     }
     Ok(())
 }
 
-/// Whether the data unpacks, or has a fault of its method.
-fn is_answered(
+/// Unpacks data, and counts an answer that is neither raw data nor a fault of the method.
+fn unpack(
     alloc: Global,
     method: Method,
     shape: &Shape<'_>,
     packed: Vec<u8>,
-) -> Result<bool, Stop>
+    other: &mut u64,
+) -> Result<(), Stop>
     requires shape { IsShape shape.now.channels.now shape.now.region }
     requires small { raw_size_of shape.now.channels.now shape.now.region ≤ 2 ^ 26 }
 {
     let body = Body::Flat(packed);
-    if !sizes_fit(method, shape, &body) {
-        return Ok(false);
+    let mut wanted = false;
+    if sizes_fit(method, shape, &body) {
+        wanted = match unpack_block(alloc, method, shape, body) {
+            Ok(_block) => true,
+            Err(Refusal::Fault(fault)) => is_of_method(method, fault),
+            Err(Refusal::NoMemory) => return Err(Stop::NoMemory),
+        };
     }
-    match unpack_block(alloc, method, shape, body) {
-        Ok(_block) => Ok(true),
-        Err(Refusal::Fault(fault)) => Ok(is_of_method(method, fault)),
-        Err(Refusal::NoMemory) => Err(Stop::NoMemory),
+    if !wanted {
+        *other = other.wrapping_add(1);
     }
+    Ok(())
 }
 
 /// Whether a fault is the one of data under a method.

@@ -8,7 +8,7 @@ mod picture;
 
 use damage::damaged;
 use exr_outside::{OutSink, RealFiles, RealWorld};
-use exr_tools::{Stop, stop_line};
+use exr_tools::Stop;
 use picture::{bytes_under, extract};
 use std::env::Env;
 use std::fs::File;
@@ -23,10 +23,7 @@ const OUTPUT: &str = "out.raw";
 fn main(rt: HostRuntime) -> ExitCode {
     match program(&rt) {
         Ok(()) => ExitCode::SUCCESS,
-        Err(stop) => {
-            report(&rt, &stop);
-            ExitCode::from(stop.status())
-        }
+        Err(stop) => ExitCode::from(stop.status()),
     }
 }
 
@@ -34,7 +31,12 @@ fn main(rt: HostRuntime) -> ExitCode {
 fn program<R: AllocGlobal + Env + Files<File = File> + Print + Threads + Sync>(
     rt: &R,
 ) -> Result<(), Stop> {
-    let words = words_of(rt)?;
+    let mut words = Vec::new(rt.alloc());
+    if let Ok(args) = env::args(rt) {
+        for word in args.skip(1) {
+            words.push(word)?;
+        }
+    }
     for pair in words.chunks_exact(2) {
         if let [picture, samples] = pair {
             compare(rt, picture.as_str(), samples.as_str())?;
@@ -82,25 +84,4 @@ fn unpack_damaged<R: AllocGlobal + Files<File = File> + Print>(
         return Err(Stop::Write);
     }
     Ok(())
-}
-
-/// The words after the program's name.
-fn words_of<R: AllocGlobal + Env>(rt: &R) -> Result<Vec<String>, Stop> {
-    let mut words = Vec::new(rt.alloc());
-    let Ok(args) = env::args(rt) else {
-        return Err(Stop::Words { position: 0 });
-    };
-    for word in args.skip(1) {
-        words.push(word)?;
-    }
-    Ok(words)
-}
-
-/// Says on standard error why the program stopped.
-fn report<R: AllocGlobal + Eprint>(rt: &R, stop: &Stop) {
-    if let Ok(line) = stop_line(rt.alloc(), stop)
-        && let Ok(text) = str::from_utf8(&line)
-    {
-        let _ = rt.eprint(text);
-    }
 }
