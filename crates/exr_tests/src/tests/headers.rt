@@ -79,10 +79,14 @@ fn texts(rt: HostRuntime) -> Result<(), Fail> {
         assert_eq!(rt; got.stop, None);
         assert!(rt; got.written.is_none());
         let text = str::from_utf8(&got.printed).ok().ok_or("a text")?;
-        let mut lines = text.lines();
-        for line in *wanted {
-            assert!(rt; lines.any(|found| found == *line), "{line}");
+        let mut left = wanted.iter();
+        let mut next = left.next();
+        for line in text.lines() {
+            if next == Some(&line) {
+                next = left.next();
+            }
         }
+        assert_eq!(rt; next, None);
     }
     Ok(())
 }

@@ -13,7 +13,7 @@ use std::test::Fail;
 use std::thread::Threads;
 
 /// A kind of call: of the set of files, of a file that is read, of one that is written, and of standard output.
-#[derive(Clone, Copy, Debug, PartialEq, Eq)]
+#[derive(Clone, Copy, PartialEq, Eq)]
 pub enum Call {
     Open,
     Create,

@@ -17,11 +17,7 @@ fn check(rt: &(impl Abort + AllocGlobal + Threads + Sync), rows: &[Row]) -> Resu
     for (file, more, wanted) in rows {
         let got = extracted(rt, alloc, &bytes_of(alloc, *file)?, more, None)?;
         assert_eq!(rt; got.stop, None, "{more:?}");
-        assert_eq!(rt;
-            got.written.as_ref().map(|v| v.as_slice()),
-            Some(*wanted),
-            "{more:?}"
-        );
+        assert_eq!(rt; got.written.as_deref(), Some(*wanted), "{more:?}");
         let count = wanted.len();
         let line = format!(in alloc; "extract bytes {count}\n")?;
         assert_eq!(rt; got.printed.as_slice(), line.as_bytes());
