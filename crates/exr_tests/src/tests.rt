@@ -1,0 +1,10 @@
+//! Tables of files, words and failing calls, and what comes of them.
+
+mod edits;
+mod files;
+mod headers;
+mod methods;
+mod refused;
+mod runs;
+mod stops;
+mod written;

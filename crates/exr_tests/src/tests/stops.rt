@@ -1,0 +1,210 @@
+//! The words, the calls that fail, and the statuses and lines of stops.
+
+use super::files::{ONE, PARTS, TILES, bytes_of};
+use super::methods::ZEROS;
+use super::runs::{Call, ROOM, extracted, outcome_of};
+use exr_attributes::HeaderFault;
+use exr_block::ChunkFault;
+use exr_tools::{FileFault, RequestFault, Stop, stop_line};
+use std::process::Abort;
+use std::test::Fail;
+use std::thread::Threads;
+
+/// Words, and the position of the first that is invalid or missing.
+const WORDS: &[(&[&str], u32)] = &[
+    (&[], 0),
+    (&["extract"], 1),
+    (&["extract", "in=a"], 2),
+    (&["extract", "out=b"], 2),
+    (&["extract", "in=a", "out="], 2),
+    (&["extract", "in=", "out=b"], 1),
+    (&["extract", "in=a", "in=a"], 2),
+    (&["extract", "in=a", "out=b", "out=b"], 3),
+    (&["extract", "in=a", "out=b", "part="], 3),
+    (&["extract", "part=4294967296", "in=a", "out=b"], 1),
+    (&["extract", "in=a", "out=b", "workers=0"], 3),
+    (&["extract", "in=a", "out=b", "workers=17"], 3),
+    (&["extract", "window=0,0,0", "in=a", "out=b"], 1),
+    (&["extract", "in=a", "pad=65536", "out=b"], 2),
+    (&["extract", "in=a", "out=b", "byte=256"], 3),
+    (&["extract", "in=a", "out=b", "layout=rows"], 3),
+    (&["extract", "in=a", "out=b", "channels=A,,B"], 3),
+    (&["extract", "in=a", "out=b", "channels=A:double"], 3),
+    (&["Extract", "in=a", "out=b"], 0),
+    (&["--help"], 0),
+    (&["in=a", "out=b"], 0),
+    (&["header"], 1),
+    (&["header", "in=a", "out=b"], 2),
+];
+
+#[test]
+fn words(rt: HostRuntime) -> Result<(), Fail> {
+    let alloc = rt.alloc();
+    let bytes = bytes_of(alloc, ONE)?;
+    for (words, position) in WORDS {
+        let got = outcome_of(&rt, alloc, words, &bytes, None)?;
+        let position = *position;
+        assert_eq!(rt; got.stop, Some(Stop::Words { position }), "{words:?}");
+        assert!(rt; got.written.is_none() && got.printed.is_empty());
+    }
+    // names of files that are not there
+    for words in [
+        ["extract", "in=c", "out=b"],
+        ["extract", "in=in=a", "out=b"],
+    ] {
+        let got = outcome_of(&rt, alloc, &words, &bytes, None)?;
+        assert_eq!(rt; got.stop, Some(Stop::Read));
+        assert_eq!(rt; (got.read_faults, got.write_faults), (1, 0));
+    }
+    Ok(())
+}
+
+/// Lets a call fail, and says whether it was made: then the run stops for it, its count has gone up, and nothing is printed.
+/// What was written is a beginning of what a run without failures writes.
+fn stops_at(
+    rt: &(impl Abort + AllocGlobal + Threads + Sync),
+    bytes: &[u8],
+    call: Call,
+    number: u64,
+    whole: &[u8],
+) -> Result<bool, Fail> {
+    let got = extracted(rt, rt.alloc(), bytes, &[], Some((call, number)))?;
+    if got.stop.is_none() {
+        assert_eq!(rt; got.written.as_deref(), Some(whole));
+        return Ok(false);
+    }
+    assert!(rt; got.printed.is_empty());
+    let written = got.written.as_deref();
+    let (stop, faults, kept) = match call {
+        Call::Open | Call::Len | Call::Read => (Stop::Read, (1, 0), None),
+        Call::Create => (Stop::Write, (0, 1), None),
+        Call::Append => (Stop::Write, (0, 1), Some(b"".as_slice())),
+        Call::Print => (Stop::Write, (0, 0), Some(whole)),
+    };
+    assert_eq!(rt; got.stop, Some(stop));
+    assert_eq!(rt; (got.read_faults, got.write_faults), faults);
+    assert_eq!(rt; written, kept);
+    Ok(true)
+}
+
+/// How many calls of a kind extracting makes, each of which stops the run where it fails.
+fn count_of(
+    rt: &(impl Abort + AllocGlobal + Threads + Sync),
+    bytes: &[u8],
+    call: Call,
+    whole: &[u8],
+) -> Result<u64, Fail> {
+    for number in 0..1000 {
+        if !stops_at(rt, bytes, call, number, whole)? {
+            return Ok(number);
+        }
+    }
+    Err("fewer calls")?
+}
+
+/// The kinds of calls, each with how often a run makes it at least.
+const CALLS: [(Call, u64); 6] = [
+    (Call::Open, 1),
+    (Call::Create, 1),
+    (Call::Len, 1),
+    (Call::Read, 2),
+    (Call::Append, 1),
+    (Call::Print, 1),
+];
+
+#[test]
+fn calls_that_fail(rt: HostRuntime) -> Result<(), Fail> {
+    for file in [ONE, TILES, ZEROS, PARTS] {
+        let bytes = bytes_of(rt.alloc(), file)?;
+        let whole = extracted(&rt, rt.alloc(), &bytes, &[], None)?
+            .written
+            .ok_or("a file")?;
+        for (call, least) in CALLS {
+            let count = count_of(&rt, &bytes, call, &whole)?;
+            assert!(rt; count >= least);
+        }
+    }
+    Ok(())
+}
+
+// Where the room of the file that is written is used up, a beginning of the samples stands in it.
+#[test]
+fn no_room(rt: HostRuntime) -> Result<(), Fail> {
+    let bytes = bytes_of(rt.alloc(), ONE)?;
+    let got = extracted(&rt, rt.alloc(), &bytes, &["pad=5000"], None)?;
+    assert_eq!(rt; got.stop, Some(Stop::Write));
+    assert_eq!(rt; (got.read_faults, got.write_faults), (0, 1));
+    assert!(rt; got.printed.is_empty());
+    let written = got.written.ok_or("a file")?;
+    assert_eq!(rt; written.len(), ROOM);
+    assert!(rt; written.starts_with(b"\0<\0\0"));
+    Ok(())
+}
+
+/// Calls of `header` that fail, and the stop.
+const OF_HEADER: [(Call, Stop); 4] = [
+    (Call::Open, Stop::Read),
+    (Call::Len, Stop::Read),
+    (Call::Read, Stop::Read),
+    (Call::Print, Stop::Write),
+];
+
+#[test]
+fn calls_of_header_that_fail(rt: HostRuntime) -> Result<(), Fail> {
+    let bytes = bytes_of(rt.alloc(), ONE)?;
+    for (call, stop) in OF_HEADER {
+        let got = outcome_of(
+            &rt,
+            rt.alloc(),
+            &["header", "in=a"],
+            &bytes,
+            Some((call, 0)),
+        )?;
+        assert_eq!(rt; got.stop, Some(stop));
+        assert!(rt; got.printed.is_empty());
+    }
+    Ok(())
+}
+
+/// Stops, with their statuses and lines.
+const LINES: [(Stop, u8, &str); 8] = [
+    (Stop::NoMemory, 1, "exr: no memory\n"),
+    (Stop::Words { position: 2 }, 2, "exr: word 2\n"),
+    (
+        Stop::File {
+            file: 0,
+            fault: FileFault::Head(HeaderFault::BadMagic),
+        },
+        3,
+        "exr: file 0 head fault 5\n",
+    ),
+    (
+        Stop::File {
+            file: 0,
+            fault: FileFault::Chunk {
+                part: 1,
+                index: 7,
+                fault: ChunkFault::Rle,
+            },
+        },
+        3,
+        "exr: file 0 part 1 chunk 7 fault 6\n",
+    ),
+    (Stop::Read, 4, "exr: read fault\n"),
+    (Stop::Write, 5, "exr: write fault\n"),
+    (
+        Stop::Request(RequestFault::TooLarge),
+        6,
+        "exr: request fault 6\n",
+    ),
+    (Stop::Form, 7, "exr: form\n"),
+];
+
+#[test]
+fn lines(rt: HostRuntime) -> Result<(), Fail> {
+    for (stop, status, line) in LINES {
+        assert_eq!(rt; stop.status(), status);
+        assert_eq!(rt; stop_line(rt.alloc(), &stop)?.as_slice(), line.as_bytes());
+    }
+    Ok(())
+}
