@@ -20,7 +20,7 @@ pub const DEEP: u32 = 0x800;
 /// An attribute: its name, its type and its value.
 pub type Extra = (&'static [u8], &'static [u8], &'static [u8]);
 
-/// Bytes of a head, and as many that are put in their place where they come first.
+/// Bytes of a head, and those that are put over their front where they come first.
 pub type Edit = (&'static [u8], &'static [u8]);
 
 /// A head.
@@ -62,6 +62,12 @@ pub const DEEP_LINES: &[Extra] = &[
     (b"maxSamplesPerPixel", b"int", b"\xff\xff\xff\xff"),
 ];
 
+/// What a deep part of tiles needs besides.
+pub const DEEP_TILES: &[Extra] = &[
+    (b"type", b"string", b"deeptile"),
+    (b"version", b"int", b"\x01\0\0\0"),
+];
+
 /// A part of one pixel and one chunk.
 pub const PART_0: PartSpec<'static> = PartSpec {
     picture: ONE_PIXEL,
@@ -84,7 +90,7 @@ pub const DEEP_ONE: Spelled = Spelled::One(DEEP, TWO_PIXELS, DEEP_LINES);
 pub const TWO: Spelled = Spelled::Many(&[PART_0, PART_1]);
 
 /// The bytes of attributes.
-fn extras(alloc: Global, more: &[Extra]) -> Result<Vec<u8>, Fail> {
+pub fn extras(alloc: Global, more: &[Extra]) -> Result<Vec<u8>, Fail> {
     let mut bytes = Vec::new(alloc);
     for (name, kind, value) in more {
         put_attribute(&mut bytes, name, kind, value)?;
@@ -121,7 +127,11 @@ fn place_of(head: &[u8], old: &[u8]) -> Option<usize> {
 }
 
 /// The bytes of a head after some edits.
-pub fn spell_edited(alloc: Global, head: Spelled, edits: &[Edit]) -> Result<Vec<u8>, Fail> {
+pub fn spell_edited(
+    alloc: Global,
+    head: Spelled,
+    edits: &[(&[u8], &[u8])],
+) -> Result<Vec<u8>, Fail> {
     let mut bytes = spell(alloc, head)?;
     for (old, new) in edits {
         let place = place_of(&bytes, old).ok_or("bytes of the head")?;
@@ -129,6 +139,26 @@ pub fn spell_edited(alloc: Global, head: Spelled, edits: &[Edit]) -> Result<Vec<
             *byte = *put;
         }
     }
+    Ok(bytes)
+}
+
+/// The front of an attribute: its name, a zero, and its type.
+pub fn front(alloc: Global, name: &[u8], kind: &[u8]) -> Result<Vec<u8>, Fail> {
+    let mut bytes = name.to_vec(alloc)?;
+    bytes.push(0)?;
+    bytes.extend_from_slice(kind)?;
+    Ok(bytes)
+}
+
+/// The bytes of a head of one part, in which an attribute of that name stands last in the place of the one that was there,
+/// which has another name then.
+pub fn spell_with(alloc: Global, head: Spelled, extra: Extra) -> Result<Vec<u8>, Fail> {
+    let (name, kind, value) = extra;
+    let there = front(alloc, name, b"")?;
+    let mut bytes = spell_edited(alloc, head, &[(&there, b"?")])?;
+    let _end = bytes.pop();
+    put_attribute(&mut bytes, name, kind, value)?;
+    bytes.push(0)?;
     Ok(bytes)
 }
 

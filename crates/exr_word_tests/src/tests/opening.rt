@@ -146,12 +146,12 @@ const FAULTY: &[Faulty] = &[
         HeaderFault::Truncated { at: 300 },
         300,
     ),
-    // a head that does not end, from 2^24 + 1 bytes
+    // a head that does not end within 2^24 bytes, where the file ends there and where it goes on
     (
         b"v/1\x01\x02\0\0\0aaa\0string\0\xff\xff\xff\x7f",
-        (1 << 24) + 1,
-        HeaderFault::Limit(Bound::HeadBytes),
-        (1 << 24) + 1,
+        1 << 24,
+        HeaderFault::Truncated { at: 1 << 24 },
+        1 << 24,
     ),
     (
         b"v/1\x01\x02\0\0\0aaa\0string\0\xff\xff\xff\x7f",
