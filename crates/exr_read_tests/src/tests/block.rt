@@ -1,6 +1,8 @@
 //! The data of chunks under each method: raw data and packed data, unpacked and packed, and each fault with what it
 //! carries.
 
+ghost use Rattle.exr_judge.specs.Picture.{IsPicture};
+
 use super::heads::head_of;
 use exr_b44::B44Fault;
 use exr_base::{Channel, Kind, Method, Name, Refusal, Shape};
@@ -8,6 +10,7 @@ use exr_block::{
     Block, Body, ChunkFault, can_pack, fits, is_size, pack_block, sizes_fit, unpack_block,
 };
 use exr_fixtures::{ChannelSpec, ONE_PIXEL, Picture, Y};
+use exr_header::{FileHead, Header};
 use exr_huffman::HufFault;
 use exr_piz::PizFault;
 use std::alloc::Global;
@@ -248,22 +251,21 @@ const UNPACKED: &[Unpacked] = &[
     ),
 ];
 
-/// The raw content of data, or its fault.
-fn unpacked(
-    alloc: Global,
-    (channels, method, window): Form,
-    data: &[u8],
-) -> Result<Result<Vec<u8>, ChunkFault>, Fail> {
+/// The head of a file of one part with these channels, this method and this data window.
+fn head_under(alloc: Global, (channels, method, window): Form) -> Result<FileHead, Fail> {
     let picture = Picture {
         channels,
         window,
         method,
         ..ONE_PIXEL
     };
-    let head = head_of(alloc, &picture)?;
-    let [part] = head.parts() else {
-        return Err("one part".into());
-    };
+    head_of(alloc, &picture)
+}
+
+/// The raw content of data of a part's data window, or its fault.
+fn unpacked(alloc: Global, part: &Header, data: &[u8]) -> Result<Result<Vec<u8>, ChunkFault>, Fail>
+    requires { IsPicture part.now }
+{
     let shape = Shape {
         channels: part.channels(),
         region: part.window(),
@@ -294,7 +296,11 @@ fn is_same(got: &Result<Vec<u8>, ChunkFault>, wanted: Result<&[u8], ChunkFault>)
 #[test]
 fn data_under_each_method(rt: HostRuntime) -> Result<(), Fail> {
     for (form, data, wanted) in UNPACKED {
-        let got = unpacked(rt.alloc(), *form, data)?;
+        let head = head_under(rt.alloc(), *form)?;
+        let [part] = head.parts() else {
+            return Err("one part".into());
+        };
+        let got = unpacked(rt.alloc(), part, data)?;
         assert!(rt; is_same(&got, *wanted), "{got:?} {wanted:?}");
     }
     Ok(())
@@ -354,22 +360,10 @@ const PACKED: &[Packed] = &[
     ),
 ];
 
-/// The data that is stored for raw content, if it can be stored.
-fn packed(
-    alloc: Global,
-    (channels, method, window): Form,
-    raw: &[u8],
-) -> Result<Option<Vec<u8>>, Fail> {
-    let picture = Picture {
-        channels,
-        window,
-        method,
-        ..ONE_PIXEL
-    };
-    let head = head_of(alloc, &picture)?;
-    let [part] = head.parts() else {
-        return Err("one part".into());
-    };
+/// The data that is stored for raw content of a part's data window, if it can be stored.
+fn packed(alloc: Global, part: &Header, raw: &[u8]) -> Result<Option<Vec<u8>>, Fail>
+    requires { IsPicture part.now }
+{
     let shape = Shape {
         channels: part.channels(),
         region: part.window(),
@@ -388,10 +382,14 @@ fn packed(
 #[test]
 fn content_under_each_method(rt: HostRuntime) -> Result<(), Fail> {
     for (form, raw, wanted) in PACKED {
-        let got = packed(rt.alloc(), *form, raw)?;
+        let head = head_under(rt.alloc(), *form)?;
+        let [part] = head.parts() else {
+            return Err("one part".into());
+        };
+        let got = packed(rt.alloc(), part, raw)?;
         assert_eq!(rt; got.as_deref(), wanted.map(|(data, _)| data));
         if let Some((data, again)) = wanted {
-            let got = unpacked(rt.alloc(), *form, data)?;
+            let got = unpacked(rt.alloc(), part, data)?;
             assert!(rt; is_same(&got, Ok(*again)), "{got:?}");
         }
     }
