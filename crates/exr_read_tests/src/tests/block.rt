@@ -202,6 +202,31 @@ const UNPACKED: &[Unpacked] = &[
         b"\xff\x1f\0\0\0\0\0\0",
         Err(ChunkFault::Piz(PizFault::Huffman(HufFault::Short))),
     ),
+    (
+        (HALF, PIZ, BLOCK),
+        b"\xff\x1f\0\0\x14\0\0\0\x02\0\0\0\x01\0\0\0\0\0\0\0\0\0\0\0\0\0\0\0",
+        Err(ChunkFault::Piz(PizFault::Huffman(HufFault::BadRange))),
+    ),
+    (
+        (HALF, PIZ, BLOCK),
+        b"\xff\x1f\0\0\x14\0\0\0\0\0\0\0\x01\0\0\0\0\0\0\0\0\0\0\0\0\0\0\0",
+        Err(ChunkFault::Piz(PizFault::Huffman(HufFault::BadTable))),
+    ),
+    (
+        (HALF, PIZ, BLOCK),
+        b"\xff\x1f\0\0\x18\0\0\0\0\0\0\0\x01\0\0\0\x02\0\0\0\x09\0\0\0\0\0\0\0\x04\x10\xff\x80",
+        Err(ChunkFault::Piz(PizFault::Huffman(HufFault::RunFirst))),
+    ),
+    (
+        (HALF, PIZ, BLOCK),
+        b"\xff\x1f\0\0\x19\0\0\0\0\0\0\0\x01\0\0\0\x02\0\0\0\x15\0\0\0\0\0\0\0\x04\x10\x7f\xdf\xf0",
+        Err(ChunkFault::Piz(PizFault::Huffman(HufFault::TooMany))),
+    ),
+    (
+        (HALF, PIZ, BLOCK),
+        b"\xff\x1f\0\0\x18\0\0\0\0\0\0\0\x01\0\0\0\x02\0\0\0\x0a\0\0\0\0\0\0\0\x04\x10\x7f\xc0",
+        Err(ChunkFault::Piz(PizFault::Huffman(HufFault::TooFew))),
+    ),
     // cells of four by four pixels
     ((HALF, B44, CELL), ZERO_CELL, Ok(&[0; 32])),
     ((HALF, B44A, CELL), FLAT_CELL, Ok(&[0; 32])),
