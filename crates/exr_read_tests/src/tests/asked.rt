@@ -1,6 +1,6 @@
 //! What is asked of a part, written as constants.
 
-ghost use Rattle.std.specs.Prelude.{◌≤◌, IfOk, IfSome, vec_len};
+ghost use Rattle.std.specs.Prelude.{◌≤◌, IfOk, IfSome, length};
 ghost use Rattle.exr_asked.specs.Demand.{demand_of, IsModest};
 
 use exr_base::{Box2i, Kind, Name};
@@ -34,7 +34,7 @@ pub const ALL: Request = Request {
 };
 
 fn wanted_of(alloc: Global, table: &[Named]) -> Result<Vec<Wanted>, Fail>
-    ensures { IfOk result (λ wanted. vec_len wanted ≤ 1024) }
+    ensures { IfOk result (λ wanted. length wanted.items ≤ 1024) }
 {
     let mut wanted = Vec::new(alloc);
     for (name, kind) in table {
@@ -50,7 +50,7 @@ fn wanted_of(alloc: Global, table: &[Named]) -> Result<Vec<Wanted>, Fail>
 }
 
 fn channels_of(alloc: Global, table: Option<&[Named]>) -> Result<Option<Vec<Wanted>>, Fail>
-    ensures { IfOk result (λ channels. IfSome channels (λ wanted. vec_len wanted ≤ 1024)) }
+    ensures { IfOk result (λ channels. IfSome channels (λ wanted. length wanted.items ≤ 1024)) }
 {
     match table {
         Some(table) => Ok(Some(wanted_of(alloc, table)?)),

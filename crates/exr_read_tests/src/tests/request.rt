@@ -1,6 +1,5 @@
 //! Requests: the bytes of buffers and the places of slices in them, and each reason to refuse.
 
-ghost use Rattle.std.specs.Prelude.{◌≡◌};
 ghost use Rattle.exr_asked.specs.Demand.{demand_of, IsModest};
 
 use super::asked::{ALL, Request, asked_of};

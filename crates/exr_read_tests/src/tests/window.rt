@@ -1,7 +1,6 @@
 //! Windows of small files: the rounds in which they are read, where reading stops and what is put before, which chunks are
 //! looked at, and what the gate is told of them.
 
-ghost use Rattle.std.specs.Prelude.{◌≡◌, ◌≤◌};
 ghost use Rattle.exr_asked.specs.Demand.{demand_of, IsModest};
 
 use super::asked::{ALL, Request, asked_of};
