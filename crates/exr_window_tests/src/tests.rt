@@ -1,7 +1,6 @@
-//! Tables of cases, a file for each crate, and what they share: heads and planes spelled for them.
+//! Tables of cases, a file for each crate, and the planes that are written for them.
 
 mod chunks;
 mod frames;
-mod heads;
 mod layouts;
 mod planes;

@@ -1,21 +1,27 @@
 //! Chunks by worked values: tiles of two by two, decreasing blocks of 32 lines, two parts, and channels of unlike
 //! samplings.
 
-use super::heads::{Channel, File, HALF, Part, head_of};
 use exr_base::Box2i;
 use exr_chunks::{Geometry, Place};
+use exr_fixtures::{ChannelSpec, ONE_PIXEL, PartSpec, Picture, Y, part_head, single_head};
+use exr_header::read_head;
 use std::alloc::Global;
 use std::test::Fail;
 
+/// The numbers of two methods.
 const NO: u8 = 0;
 
 const PIZ: u8 = 4;
 
-const INCREASING: u8 = 0;
-
+/// The number of the line order in which lines decrease.
 const DECREASING: u8 = 1;
 
-const ONE: &[Channel] = &[(b'A', HALF, 1, 1)];
+/// A file of one part, or of many.
+#[derive(Clone, Copy)]
+enum File {
+    One(Picture<'static>),
+    Parts(&'static [PartSpec<'static>]),
+}
 
 /// The place of a chunk: its first line, its tile, or its tile and its level.
 #[derive(Clone, Copy)]
@@ -42,58 +48,52 @@ struct Case {
     windows: &'static [(Corners, &'static [u32])],
 }
 
-/// Five by five pixels.
-const SMALL: Part = Part {
-    channels: ONE,
+/// Five by five pixels in tiles of two by two.
+const SMALL: Picture<'static> = Picture {
     window: [0, 0, 4, 4],
-    method: NO,
-    order: INCREASING,
+    tiles: Some((2, 2)),
+    ..ONE_PIXEL
 };
 
-const FALLING: Part = Part {
-    channels: ONE,
-    window: [0, 0, 4, 4],
-    method: NO,
+const FALLING: Picture<'static> = Picture {
     order: DECREASING,
+    ..SMALL
 };
 
 /// Sixteen by seventy pixels in decreasing blocks of 32 lines.
-const LONG: Part = Part {
-    channels: ONE,
+const LONG: Picture<'static> = Picture {
     window: [0, 0, 15, 69],
     method: PIZ,
     order: DECREASING,
+    ..ONE_PIXEL
 };
 
 /// Three increasing lines of two pixels, and two decreasing lines of one.
-const TWO: &[(u8, Part, u8)] = &[
-    (
-        b'a',
-        Part {
-            channels: ONE,
+const TWO: &[PartSpec<'static>] = &[
+    PartSpec {
+        picture: Picture {
             window: [0, 0, 1, 2],
-            method: NO,
-            order: INCREASING,
+            ..ONE_PIXEL
         },
-        3,
-    ),
-    (
-        b'b',
-        Part {
-            channels: ONE,
+        name: b"a",
+        chunks: 3,
+    },
+    PartSpec {
+        picture: Picture {
             window: [0, 0, 0, 1],
-            method: NO,
             order: DECREASING,
+            ..ONE_PIXEL
         },
-        2,
-    ),
+        name: b"b",
+        chunks: 2,
+    },
 ];
 
 const FAR: i32 = 1 << 30;
 
 const CASES: [Case; 4] = [
     Case {
-        file: File::Tiles(SMALL, 2, 2),
+        file: File::One(SMALL),
         chunks: &[
             (0, 0, (0, 0, 1, 1), 8, At::Tile(0, 0), 100),
             (0, 1, (2, 0, 3, 1), 8, At::Tile(1, 0), 108),
@@ -127,7 +127,7 @@ const CASES: [Case; 4] = [
     },
     // rows of tiles decrease, and each runs from left to right
     Case {
-        file: File::Tiles(FALLING, 2, 2),
+        file: File::One(FALLING),
         chunks: &[
             (0, 6, (0, 4, 1, 4), 4, At::Tile(0, 2), 148),
             (0, 7, (2, 4, 3, 4), 4, At::Tile(1, 2), 156),
@@ -143,7 +143,7 @@ const CASES: [Case; 4] = [
         windows: &[],
     },
     Case {
-        file: File::Lines(LONG),
+        file: File::One(LONG),
         chunks: &[
             (0, 2, (0, 64, 15, 69), 192, At::Line(64), 116),
             (0, 1, (0, 32, 15, 63), 1024, At::Line(32), 108),
@@ -232,7 +232,12 @@ fn met(alloc: Global, geometry: &Geometry, window: Corners) -> Result<Vec<u32>, 
 }
 
 fn geometry_of(alloc: Global, file: File) -> Result<Geometry, Fail> {
-    Ok(Geometry::new(alloc, &head_of(alloc, file)?)?)
+    let bytes = match file {
+        File::One(picture) => single_head(alloc, &picture, b"")?,
+        File::Parts(parts) => part_head(alloc, parts)?,
+    };
+    let (head, _) = read_head(alloc, &bytes)?;
+    Ok(Geometry::new(alloc, &head)?)
 }
 
 #[test]
@@ -254,61 +259,38 @@ fn chunks_of_files(rt: HostRuntime) -> Result<(), Fail> {
     Ok(())
 }
 
-/// The channels and lines of a part of four columns, and the raw sizes of its chunks.
-type Sampled = (u8, (i32, i32), &'static [Channel], &'static [u64]);
+/// The lines of a part of four columns, the samplings of its HALF channels in x and in y, and the raw sizes of its chunks.
+type Sampled = (u8, (i32, i32), &'static [(u32, u32)], &'static [u64]);
+
+const NAMES: [&[u8]; 3] = [b"A", b"B", b"C"];
 
 const SAMPLED: [Sampled; 8] = [
     // every second line has the samples of both
-    (
-        NO,
-        (0, 3),
-        &[(b'A', HALF, 1, 1), (b'B', HALF, 2, 2)],
-        &[12, 8, 12, 8],
-    ),
+    (NO, (0, 3), &[(1, 1), (2, 2)], &[12, 8, 12, 8]),
     // after six lines, from a line below 0 on
     (
         NO,
         (-6, 5),
-        &[(b'A', HALF, 1, 1), (b'B', HALF, 2, 2), (b'C', HALF, 4, 3)],
+        &[(1, 1), (2, 2), (4, 3)],
         &[14, 8, 12, 10, 12, 8, 14, 8, 12, 10, 12, 8],
     ),
     // lines without samples, which come but once
-    (NO, (-5, -1), &[(b'A', HALF, 2, 5)], &[4, 0, 0, 0, 0]),
+    (NO, (-5, -1), &[(2, 5)], &[4, 0, 0, 0, 0]),
     // after three blocks of 32 lines, and a last one of four
     (
         PIZ,
         (0, 131),
-        &[(b'A', HALF, 1, 1), (b'B', HALF, 2, 2), (b'C', HALF, 4, 3)],
+        &[(1, 1), (2, 2), (4, 3)],
         &[342, 342, 340, 342, 42],
     ),
     // each block is like the first, but for the last
-    (
-        PIZ,
-        (-64, 7),
-        &[(b'A', HALF, 1, 2), (b'B', HALF, 1, 4)],
-        &[192, 192, 48],
-    ),
+    (PIZ, (-64, 7), &[(1, 2), (1, 4)], &[192, 192, 48]),
     // two channels of one sampling, and one block
-    (
-        PIZ,
-        (30, 35),
-        &[(b'A', HALF, 2, 3), (b'B', HALF, 1, 3), (b'C', HALF, 1, 2)],
-        &[48],
-    ),
+    (PIZ, (30, 35), &[(2, 3), (1, 3), (1, 2)], &[48]),
     // blocks with one line of samples, and with none
-    (
-        PIZ,
-        (0, 119),
-        &[(b'A', HALF, 1, 40), (b'B', HALF, 4, 120)],
-        &[10, 8, 8, 0],
-    ),
+    (PIZ, (0, 119), &[(1, 40), (4, 120)], &[10, 8, 8, 0]),
     // samples at some columns of every line
-    (
-        NO,
-        (7, 9),
-        &[(b'A', HALF, 2, 1), (b'B', HALF, 4, 1)],
-        &[6, 6, 6],
-    ),
+    (NO, (7, 9), &[(2, 1), (4, 1)], &[6, 6, 6]),
 ];
 
 /// The raw sizes of the chunks of part 0.
@@ -325,15 +307,24 @@ fn sizes_of(alloc: Global, geometry: &Geometry) -> Result<Vec<u64>, Fail> {
 
 #[test]
 fn raw_sizes_by_samplings(rt: HostRuntime) -> Result<(), Fail> {
-    for (method, (top, bottom), channels, sizes) in SAMPLED {
-        let part = Part {
-            channels,
+    let alloc = rt.alloc();
+    for (method, (top, bottom), samplings, sizes) in SAMPLED {
+        let mut channels = Vec::new(alloc);
+        for (name, sampling) in NAMES.into_iter().zip(samplings) {
+            channels.push(ChannelSpec {
+                name,
+                sampling: *sampling,
+                ..Y
+            })?;
+        }
+        let picture = Picture {
+            channels: &channels,
             window: [0, top, 3, bottom],
             method,
-            order: INCREASING,
+            ..ONE_PIXEL
         };
-        let geometry = geometry_of(rt.alloc(), File::Lines(part))?;
-        let found = sizes_of(rt.alloc(), &geometry)?;
+        let (head, _) = read_head(alloc, &single_head(alloc, &picture, b"")?)?;
+        let found = sizes_of(alloc, &Geometry::new(alloc, &head)?)?;
         assert_eq!(rt; found.as_slice(), sizes);
     }
     Ok(())

@@ -5,11 +5,11 @@ ghost use Rattle.std.specs.Prelude.{◌≡◌, ◌≤ℤ◌};
 ghost use Rattle.exr_base.specs.Shape.{IsRegion};
 ghost use Rattle.exr_judge.specs.Picture.{IsPicture};
 
-use super::heads::{Channel, File, HALF, Part, head_of};
 use super::planes::{PlainPlane, planes_of};
 use exr_base::{Box2i, Kind, Shape};
+use exr_fixtures::{ChannelSpec, ONE_PIXEL, Picture, Y, single_head};
 use exr_frame::{gather, scatter};
-use exr_header::Header;
+use exr_header::{Header, read_head};
 use exr_layout::{Layout, has_few_slices, match_part};
 use std::alloc::Global;
 use std::test::Fail;
@@ -64,16 +64,32 @@ struct Case {
     planes: &'static [PlainPlane],
     window: Pixels,
     buffer: u64,
-    channels: &'static [Channel],
+    channels: &'static [ChannelSpec<'static>],
     region: Pixels,
     raw: &'static [u8],
     into: &'static [u8],
 }
 
-const TWO_CHANNELS: &[Channel] = &[(b'A', HALF, 1, 1), (b'B', HALF, 1, 1)];
+const A: ChannelSpec<'static> = ChannelSpec { name: b"A", ..Y };
+
+const TWO_CHANNELS: &[ChannelSpec<'static>] = &[A, ChannelSpec { name: b"B", ..Y }];
 
 /// `C` has samples at each second column of each second line.
-const ONE_OF_FOUR: &[Channel] = &[(b'A', HALF, 1, 1), (b'C', HALF, 2, 2)];
+const ONE_OF_FOUR: &[ChannelSpec<'static>] = &[
+    A,
+    ChannelSpec {
+        name: b"C",
+        sampling: (2, 2),
+        ..Y
+    },
+];
+
+/// FLOAT samples.
+const DEPTH: &[ChannelSpec<'static>] = &[ChannelSpec {
+    name: b"Z",
+    kind: 2,
+    ..Y
+}];
 
 /// Raw bytes, each its number.
 const RAW: &[u8] = &[
@@ -216,7 +232,7 @@ const CASES: [Case; 8] = [
         )],
         window: Pixels::Middle,
         buffer: 18,
-        channels: &[(b'Z', 2, 1, 1)],
+        channels: DEPTH,
         region: Pixels::Middle,
         raw: &[1, 2, 3, 4, 5, 6, 7, 8],
         into: &[
@@ -279,13 +295,12 @@ fn copied(
 /// The buffer of a case.
 fn buffer_of(alloc: Global, case: &Case) -> Result<Vec<u8>, Fail> {
     let layout = layout_of(alloc, case)?;
-    let part = Part {
+    let picture = Picture {
         channels: case.channels,
         window: [-2, -2, 1, -1],
-        method: 0,
-        order: 0,
+        ..ONE_PIXEL
     };
-    let head = head_of(alloc, File::Lines(part))?;
+    let (head, _) = read_head(alloc, &single_head(alloc, &picture, b"")?)?;
     let [part] = head.parts() else {
         return Err(Fail::from("one part"));
     };

@@ -1,8 +1,9 @@
 //! Layouts by worked values: each fault by its first slice or plane, and layouts matched with the channels of a part.
 
-use super::heads::{Channel, File, HALF, Part, head_of};
 use super::planes::{PlainPlane, PlainSlice, planes_of};
 use exr_base::{Box2i, Kind, Refusal};
+use exr_fixtures::{ChannelSpec, ONE_PIXEL, Picture, Y, single_head};
+use exr_header::read_head;
 use exr_layout::{Layout, LayoutFault, MatchFault, has_few_slices, match_part};
 use std::alloc::Global;
 use std::test::Fail;
@@ -127,46 +128,47 @@ fn faults_of_layouts(rt: HostRuntime) -> Result<(), Fail> {
 }
 
 /// The last column of a part of two lines, its channel, and what differs from the layout of `A` and `B`.
-type Match = (i32, &'static [Channel], Option<MatchFault>);
+type Match = (i32, ChannelSpec<'static>, Option<MatchFault>);
 
-const FLOAT: u8 = 2;
+const A: ChannelSpec<'static> = ChannelSpec { name: b"A", ..Y };
 
 const MATCHES: [Match; 5] = [
-    (1, &[(b'A', HALF, 1, 1)], None),
-    (0, &[(b'A', HALF, 1, 1)], Some(MatchFault::WindowOutside)),
+    (1, A, None),
+    (0, A, Some(MatchFault::WindowOutside)),
     (
         1,
-        &[(b'A', FLOAT, 1, 1)],
+        ChannelSpec { kind: 2, ..A },
         Some(MatchFault::KindDiffers { slice: 0 }),
     ),
     (
         1,
-        &[(b'A', HALF, 2, 1)],
+        ChannelSpec {
+            sampling: (2, 1),
+            ..A
+        },
         Some(MatchFault::SamplingDiffers { slice: 0 }),
     ),
     (
         1,
-        &[(b'A', HALF, 1, 2)],
+        ChannelSpec {
+            sampling: (1, 2),
+            ..A
+        },
         Some(MatchFault::SamplingDiffers { slice: 0 }),
     ),
 ];
 
 /// What differs between the layout of `A` and `B` and a part; `None` where the part's channel is that of `A`.
-fn difference(
-    alloc: Global,
-    right: i32,
-    channels: &'static [Channel],
-) -> Result<Option<MatchFault>, Fail> {
+fn difference(alloc: Global, right: i32, channel: ChannelSpec) -> Result<Option<MatchFault>, Fail> {
     let Ok(layout) = layout_of(alloc, PAIRS, 8)? else {
         return Err(Fail::from("no layout"));
     };
-    let part = Part {
-        channels,
+    let picture = Picture {
+        channels: &[channel],
         window: [0, 0, right, 1],
-        method: 0,
-        order: 0,
+        ..ONE_PIXEL
     };
-    let head = head_of(alloc, File::Lines(part))?;
+    let (head, _) = read_head(alloc, &single_head(alloc, &picture, b"")?)?;
     let [part] = head.parts() else {
         return Err(Fail::from("one part"));
     };
@@ -185,8 +187,8 @@ fn difference(
 
 #[test]
 fn slices_and_channels(rt: HostRuntime) -> Result<(), Fail> {
-    for (right, channels, fault) in MATCHES {
-        assert_eq!(rt; difference(rt.alloc(), right, channels)?, fault);
+    for (right, channel, fault) in MATCHES {
+        assert_eq!(rt; difference(rt.alloc(), right, channel)?, fault);
     }
     Ok(())
 }

@@ -1,0 +1,9 @@
+//! Tables of cases, a file for each crate, and what they share.
+
+mod asked;
+mod block;
+mod heads;
+mod planar;
+mod request;
+mod stream;
+mod window;

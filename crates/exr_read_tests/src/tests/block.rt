@@ -1,0 +1,475 @@
+//! The data of chunks under each method: raw data and packed data, unpacked and packed, and each fault with what it
+//! carries.
+
+ghost use Rattle.exr_judge.specs.Picture.{IsPicture};
+
+use super::heads::head_of;
+use exr_b44::B44Fault;
+use exr_base::{Channel, Kind, Method, Name, Refusal, Shape};
+use exr_block::{
+    Block, Body, ChunkFault, can_pack, fits, is_size, pack_block, sizes_fit, unpack_block,
+};
+use exr_fixtures::{ChannelSpec, ONE_PIXEL, Picture, Y};
+use exr_header::{FileHead, Header};
+use exr_huffman::HufFault;
+use exr_piz::PizFault;
+use std::alloc::Global;
+use std::test::Fail;
+
+const NO: u8 = 0;
+
+const RLE: u8 = 1;
+
+const ZIPS: u8 = 2;
+
+const ZIP: u8 = 3;
+
+const PIZ: u8 = 4;
+
+const PXR24: u8 = 5;
+
+const B44: u8 = 6;
+
+const B44A: u8 = 7;
+
+const DWAA: u8 = 8;
+
+const DWAB: u8 = 9;
+
+/// No channel; a HALF channel, the same with a pLinear byte, a FLOAT channel with one, and a HALF channel with samples at
+/// each second column and line.
+const NONE: &[ChannelSpec<'static>] = &[];
+
+const HALF: &[ChannelSpec<'static>] = &[Y];
+
+const LINEAR: &[ChannelSpec<'static>] = &[ChannelSpec { linear: 1, ..Y }];
+
+const FLOAT: &[ChannelSpec<'static>] = &[ChannelSpec {
+    kind: 2,
+    linear: 1,
+    ..Y
+}];
+
+const SPARSE: &[ChannelSpec<'static>] = &[ChannelSpec {
+    sampling: (2, 2),
+    ..Y
+}];
+
+/// The first column and line of a region, and its last ones.
+type Corners = [i32; 4];
+
+const PIXEL: Corners = [0, 0, 0, 0];
+
+const PAIR: Corners = [-1, 7, 0, 7];
+
+const THREE: Corners = [0, 0, 2, 0];
+
+const FOUR: Corners = [0, 0, 3, 0];
+
+const CELL: Corners = [0, 0, 3, 3];
+
+const BLOCK: Corners = [0, 0, 15, 31];
+
+/// A pixel at the greatest column and the least line.
+const FAR: Corners = [1 << 30, -(1 << 30), 1 << 30, -(1 << 30)];
+
+/// Channels, a method, and a region.
+type Form = (&'static [ChannelSpec<'static>], u8, Corners);
+
+/// Data of a chunk, and its raw content or its fault. `WrongSize` stands for data of a size that it cannot have.
+type Unpacked = (Form, &'static [u8], Result<&'static [u8], ChunkFault>);
+
+/// Two pixels that stand raw, in two sizes.
+const RAW: &[u8] = b"\x01\x3c\x02\x3c";
+
+/// Eight pixels of 0 in run lengths, and 16 by 32 of them in a Huffman block.
+const ZERO_RUN: &[u8] = &[0xff, 0x00, 0x0e, 0x80];
+
+const ZERO_BLOCK: &[u8] = &[
+    0xff, 0x1f, 0, 0, 25, 0, 0, 0, 0, 0, 0, 0, 1, 0, 0, 0, 2, 0, 0, 0, 20, 0, 0, 0, 0, 0, 0, 0,
+    0x04, 0x10, 0x7f, 0xdf, 0xf0,
+];
+
+/// A cell of sixteen pixels of 0, in 14 bytes and in 3.
+const ZERO_CELL: &[u8] = &[
+    0x80, 0x00, 0x02, 0x08, 0x20, 0x82, 0x08, 0x20, 0x82, 0x08, 0x20, 0x82, 0x08, 0x20,
+];
+
+const FLAT_CELL: &[u8] = &[0x80, 0x00, 0xfc];
+
+/// Sixteen pixels of which one stands out, their cell, and what it keeps of them.
+const PEAK: &[u8] = &[
+    0x00, 0x3c, 0x00, 0x3c, 0x00, 0x3c, 0x00, 0x3c, 0x00, 0x3c, 0x65, 0x3c, 0x00, 0x3c, 0x00, 0x3c,
+    0x00, 0x3c, 0x00, 0x3c, 0x00, 0x3c, 0x00, 0x3c, 0x00, 0x3c, 0x00, 0x3c, 0x00, 0x3c, 0x00, 0x3c,
+];
+
+const PEAK_CELL: &[u8] = &[
+    0xbc, 0x01, 0x0a, 0x08, 0x20, 0x83, 0x98, 0x20, 0x80, 0x78, 0x20, 0x82, 0x08, 0x20,
+];
+
+const KEPT_PEAK: &[u8] = &[
+    0x01, 0x3c, 0x01, 0x3c, 0x01, 0x3c, 0x01, 0x3c, 0x01, 0x3c, 0x65, 0x3c, 0x01, 0x3c, 0x01, 0x3c,
+    0x01, 0x3c, 0x01, 0x3c, 0x01, 0x3c, 0x01, 0x3c, 0x01, 0x3c, 0x01, 0x3c, 0x01, 0x3c, 0x01, 0x3c,
+];
+
+const UNPACKED: &[Unpacked] = &[
+    // without a method, data has the raw size
+    ((HALF, NO, PAIR), RAW, Ok(RAW)),
+    ((HALF, NO, PAIR), b"abc", Err(ChunkFault::WrongSize)),
+    ((HALF, NO, PAIR), b"abcde", Err(ChunkFault::WrongSize)),
+    ((HALF, NO, FAR), b"\0\x3c", Ok(b"\0\x3c")),
+    ((NONE, NO, PIXEL), b"", Ok(b"")),
+    // data of the raw size is raw, whatever the method
+    ((HALF, RLE, PAIR), RAW, Ok(RAW)),
+    ((HALF, ZIPS, PAIR), RAW, Ok(RAW)),
+    ((HALF, ZIP, PAIR), RAW, Ok(RAW)),
+    ((HALF, PIZ, PAIR), RAW, Ok(RAW)),
+    ((HALF, PXR24, PAIR), RAW, Ok(RAW)),
+    ((HALF, B44, PAIR), RAW, Ok(RAW)),
+    ((HALF, B44A, PAIR), RAW, Ok(RAW)),
+    ((HALF, DWAA, PAIR), RAW, Ok(RAW)),
+    ((HALF, DWAB, PAIR), RAW, Ok(RAW)),
+    ((LINEAR, B44, PAIR), RAW, Ok(RAW)),
+    ((LINEAR, B44A, PAIR), RAW, Ok(RAW)),
+    ((FLOAT, B44, PIXEL), RAW, Ok(RAW)),
+    ((SPARSE, RLE, [0, 0, 3, 1]), RAW, Ok(RAW)),
+    ((NONE, PIZ, PIXEL), b"", Ok(b"")),
+    // more than that is no size of any
+    ((HALF, RLE, PAIR), b"abcde", Err(ChunkFault::WrongSize)),
+    ((HALF, ZIP, PAIR), b"abcde", Err(ChunkFault::WrongSize)),
+    ((HALF, PIZ, PAIR), b"abcde", Err(ChunkFault::WrongSize)),
+    ((HALF, B44, PAIR), b"abcde", Err(ChunkFault::WrongSize)),
+    ((NONE, RLE, PIXEL), b"a", Err(ChunkFault::WrongSize)),
+    // smaller data under methods that are not read
+    (
+        (HALF, ZIPS, PAIR),
+        b"abc",
+        Err(ChunkFault::Unsupported {
+            method: Method::Zips,
+        }),
+    ),
+    (
+        (HALF, ZIP, PAIR),
+        b"",
+        Err(ChunkFault::Unsupported {
+            method: Method::Zip,
+        }),
+    ),
+    (
+        (HALF, PXR24, PAIR),
+        b"abc",
+        Err(ChunkFault::Unsupported {
+            method: Method::Pxr24,
+        }),
+    ),
+    (
+        (HALF, DWAA, PAIR),
+        b"abc",
+        Err(ChunkFault::Unsupported {
+            method: Method::Dwaa,
+        }),
+    ),
+    (
+        (HALF, DWAB, PAIR),
+        b"abc",
+        Err(ChunkFault::Unsupported {
+            method: Method::Dwab,
+        }),
+    ),
+    // run lengths
+    ((HALF, RLE, [0, 0, 7, 0]), ZERO_RUN, Ok(&[0; 16])),
+    ((HALF, RLE, [0, 0, 1, 0]), b"\x02\x05", Err(ChunkFault::Rle)),
+    ((HALF, RLE, PAIR), b"\x03\x05", Ok(b"\x05\x0f\x8a\x94")),
+    ((HALF, RLE, PAIR), b"\x03", Err(ChunkFault::Rle)),
+    ((HALF, RLE, PAIR), b"", Err(ChunkFault::Rle)),
+    ((HALF, RLE, FAR), b"\x01\x05", Ok(b"\x01\x05")),
+    ((HALF, RLE, FAR), b"\x01", Err(ChunkFault::Rle)),
+    // a value map and a Huffman block
+    ((HALF, PIZ, BLOCK), ZERO_BLOCK, Ok(&[0; 1024])),
+    (
+        (HALF, PIZ, PIXEL),
+        b"\0",
+        Err(ChunkFault::Piz(PizFault::Short)),
+    ),
+    ((HALF, PIZ, FAR), b"", Err(ChunkFault::Piz(PizFault::Short))),
+    (
+        (HALF, PIZ, THREE),
+        b"\0\x20\0\0",
+        Err(ChunkFault::Piz(PizFault::BadMap)),
+    ),
+    (
+        (HALF, PIZ, BLOCK),
+        b"\xff\x1f\0\0\0\0\0\0",
+        Err(ChunkFault::Piz(PizFault::Huffman(HufFault::Short))),
+    ),
+    (
+        (HALF, PIZ, BLOCK),
+        b"\xff\x1f\0\0\x14\0\0\0\x02\0\0\0\x01\0\0\0\0\0\0\0\0\0\0\0\0\0\0\0",
+        Err(ChunkFault::Piz(PizFault::Huffman(HufFault::BadRange))),
+    ),
+    (
+        (HALF, PIZ, BLOCK),
+        b"\xff\x1f\0\0\x14\0\0\0\0\0\0\0\x01\0\0\0\0\0\0\0\0\0\0\0\0\0\0\0",
+        Err(ChunkFault::Piz(PizFault::Huffman(HufFault::BadTable))),
+    ),
+    (
+        (HALF, PIZ, BLOCK),
+        b"\xff\x1f\0\0\x18\0\0\0\0\0\0\0\x01\0\0\0\x02\0\0\0\x09\0\0\0\0\0\0\0\x04\x10\xff\x80",
+        Err(ChunkFault::Piz(PizFault::Huffman(HufFault::RunFirst))),
+    ),
+    (
+        (HALF, PIZ, BLOCK),
+        b"\xff\x1f\0\0\x19\0\0\0\0\0\0\0\x01\0\0\0\x02\0\0\0\x15\0\0\0\0\0\0\0\x04\x10\x7f\xdf\xf0",
+        Err(ChunkFault::Piz(PizFault::Huffman(HufFault::TooMany))),
+    ),
+    (
+        (HALF, PIZ, BLOCK),
+        b"\xff\x1f\0\0\x18\0\0\0\0\0\0\0\x01\0\0\0\x02\0\0\0\x0a\0\0\0\0\0\0\0\x04\x10\x7f\xc0",
+        Err(ChunkFault::Piz(PizFault::Huffman(HufFault::TooFew))),
+    ),
+    // cells of four by four pixels
+    ((HALF, B44, CELL), ZERO_CELL, Ok(&[0; 32])),
+    ((HALF, B44A, CELL), FLAT_CELL, Ok(&[0; 32])),
+    ((HALF, B44A, CELL), ZERO_CELL, Ok(&[0; 32])),
+    ((HALF, B44, CELL), FLAT_CELL, Ok(&[0; 32])),
+    ((HALF, B44, CELL), PEAK_CELL, Ok(KEPT_PEAK)),
+    ((HALF, B44A, FOUR), FLAT_CELL, Ok(&[0; 8])),
+    ((SPARSE, B44, [0, 0, 7, 7]), PEAK_CELL, Ok(KEPT_PEAK)),
+    (
+        (HALF, B44, CELL),
+        b"",
+        Err(ChunkFault::B44(B44Fault::Short)),
+    ),
+    (
+        (HALF, B44, CELL),
+        b"\x80\0\x02",
+        Err(ChunkFault::B44(B44Fault::Short)),
+    ),
+    (
+        (HALF, B44A, CELL),
+        b"\x80\0\xfc\0",
+        Err(ChunkFault::B44(B44Fault::Long)),
+    ),
+    (
+        (HALF, B44, FAR),
+        b"\0",
+        Err(ChunkFault::B44(B44Fault::Short)),
+    ),
+    (
+        (FLOAT, B44, PIXEL),
+        b"abc",
+        Err(ChunkFault::B44(B44Fault::Short)),
+    ),
+    (
+        (LINEAR, B44, CELL),
+        ZERO_CELL,
+        Err(ChunkFault::Unsupported {
+            method: Method::B44,
+        }),
+    ),
+    (
+        (LINEAR, B44A, CELL),
+        FLAT_CELL,
+        Err(ChunkFault::Unsupported {
+            method: Method::B44a,
+        }),
+    ),
+];
+
+/// The head of a file of one part with these channels, this method and this data window.
+fn head_under(alloc: Global, (channels, method, window): Form) -> Result<FileHead, Fail> {
+    let picture = Picture {
+        channels,
+        window,
+        method,
+        ..ONE_PIXEL
+    };
+    head_of(alloc, &picture)
+}
+
+/// The raw content of data of a part's data window, or its fault.
+fn unpacked(alloc: Global, part: &Header, data: &[u8]) -> Result<Result<Vec<u8>, ChunkFault>, Fail>
+    requires { IsPicture part.now }
+{
+    let shape = Shape {
+        channels: part.channels(),
+        region: part.window(),
+    };
+    let body = Body::Flat(data.to_vec(alloc)?);
+    if !sizes_fit(part.method(), &shape, &body) {
+        return Ok(Err(ChunkFault::WrongSize));
+    }
+    if shape.raw_size() > 1 << 26 {
+        return Err("too large a region".into());
+    }
+    match unpack_block(alloc, part.method(), &shape, body) {
+        Ok(Block::Flat(raw)) => Ok(Ok(raw)),
+        Err(Refusal::Fault(fault)) => Ok(Err(fault)),
+        Err(Refusal::NoMemory) => Err("no memory".into()),
+    }
+}
+
+/// Whether bytes or a fault are those that are wanted.
+fn is_same(got: &Result<Vec<u8>, ChunkFault>, wanted: Result<&[u8], ChunkFault>) -> bool {
+    match (got, wanted) {
+        (Ok(got), Ok(wanted)) => got.as_slice() == wanted,
+        (Err(got), Err(wanted)) => *got == wanted,
+        _ => false,
+    }
+}
+
+#[test]
+fn data_under_each_method(rt: HostRuntime) -> Result<(), Fail> {
+    for (form, data, wanted) in UNPACKED {
+        let head = head_under(rt.alloc(), *form)?;
+        let [part] = head.parts() else {
+            return Err("one part".into());
+        };
+        let got = unpacked(rt.alloc(), part, data)?;
+        assert!(rt; is_same(&got, *wanted), "{got:?} {wanted:?}");
+    }
+    Ok(())
+}
+
+/// Raw content, and where it can be stored, the data that is stored and what that stands for.
+type Packed = (Form, &'static [u8], Option<(&'static [u8], &'static [u8])>);
+
+const PACKED: &[Packed] = &[
+    ((HALF, NO, PAIR), RAW, Some((RAW, RAW))),
+    ((HALF, NO, FAR), b"\0\x3c", Some((b"\0\x3c", b"\0\x3c"))),
+    ((NONE, NO, PIXEL), b"", Some((b"", b""))),
+    // content of another size
+    ((HALF, NO, PAIR), b"abc", None),
+    ((HALF, RLE, PAIR), b"abcde", None),
+    ((HALF, PIZ, PAIR), b"", None),
+    // methods that are not written
+    ((HALF, ZIPS, PAIR), RAW, None),
+    ((HALF, ZIP, PAIR), RAW, None),
+    ((HALF, PXR24, PAIR), RAW, None),
+    ((HALF, DWAA, PAIR), RAW, None),
+    ((HALF, DWAB, PAIR), RAW, None),
+    ((LINEAR, B44, CELL), &[0; 32], None),
+    ((LINEAR, B44A, CELL), &[0; 32], None),
+    // packed data that is smaller
+    (
+        (HALF, RLE, [0, 0, 7, 0]),
+        &[0; 16],
+        Some((ZERO_RUN, &[0; 16])),
+    ),
+    (
+        (HALF, PIZ, BLOCK),
+        &[0; 1024],
+        Some((ZERO_BLOCK, &[0; 1024])),
+    ),
+    ((HALF, B44, CELL), &[0; 32], Some((ZERO_CELL, &[0; 32]))),
+    ((HALF, B44A, CELL), &[0; 32], Some((FLAT_CELL, &[0; 32]))),
+    ((HALF, B44, CELL), PEAK, Some((PEAK_CELL, KEPT_PEAK))),
+    ((HALF, B44A, CELL), PEAK, Some((PEAK_CELL, KEPT_PEAK))),
+    ((HALF, B44A, FOUR), &[0; 8], Some((FLAT_CELL, &[0; 8]))),
+    // raw data that packing would not make smaller
+    ((HALF, RLE, PAIR), RAW, Some((RAW, RAW))),
+    (
+        (HALF, RLE, FOUR),
+        b"\0\x3c\0\x3c\0\x3c\0\x3c",
+        Some((b"\0\x3c\0\x3c\0\x3c\0\x3c", b"\0\x3c\0\x3c\0\x3c\0\x3c")),
+    ),
+    ((HALF, PIZ, PAIR), RAW, Some((RAW, RAW))),
+    ((NONE, PIZ, PIXEL), b"", Some((b"", b""))),
+    ((HALF, B44, PAIR), RAW, Some((RAW, RAW))),
+    ((HALF, B44A, PIXEL), b"\0\0", Some((b"\0\0", b"\0\0"))),
+    ((FLOAT, B44, PIXEL), RAW, Some((RAW, RAW))),
+    (
+        (FLOAT, B44A, [0, 0, 1, 0]),
+        &[0; 8],
+        Some((&[0; 8], &[0; 8])),
+    ),
+];
+
+/// The data that is stored for raw content of a part's data window, if it can be stored.
+fn packed(alloc: Global, part: &Header, raw: &[u8]) -> Result<Option<Vec<u8>>, Fail>
+    requires { IsPicture part.now }
+{
+    let shape = Shape {
+        channels: part.channels(),
+        region: part.window(),
+    };
+    let block = Block::Flat(raw.to_vec(alloc)?);
+    if !can_pack(part.method(), &shape, false) || !fits(&shape, &block) {
+        return Ok(None);
+    }
+    if shape.raw_size() > 1 << 26 {
+        return Err("too large a region".into());
+    }
+    let Body::Flat(data) = pack_block(alloc, part.method(), &shape, &block)?;
+    Ok(Some(data))
+}
+
+#[test]
+fn content_under_each_method(rt: HostRuntime) -> Result<(), Fail> {
+    for (form, raw, wanted) in PACKED {
+        let head = head_under(rt.alloc(), *form)?;
+        let [part] = head.parts() else {
+            return Err("one part".into());
+        };
+        let got = packed(rt.alloc(), part, raw)?;
+        assert_eq!(rt; got.as_deref(), wanted.map(|(data, _)| data));
+        if let Some((data, again)) = wanted {
+            let got = unpacked(rt.alloc(), part, data)?;
+            assert!(rt; is_same(&got, Ok(*again)), "{got:?}");
+        }
+    }
+    Ok(())
+}
+
+/// A method, and whether it can be written for channels under B44 with a pLinear byte of 0 and with another, and in a deep
+/// part.
+const WRITTEN: [(Method, bool, bool, bool); 10] = [
+    (Method::No, true, true, true),
+    (Method::Rle, true, true, true),
+    (Method::Zips, false, false, false),
+    (Method::Zip, false, false, false),
+    (Method::Piz, true, true, false),
+    (Method::Pxr24, false, false, false),
+    (Method::B44, true, false, false),
+    (Method::B44a, true, false, false),
+    (Method::Dwaa, false, false, false),
+    (Method::Dwab, false, false, false),
+];
+
+/// A method, and whether data of 0, 3, 4 and 5 bytes can be that of a chunk of 4 raw bytes.
+const SIZES: [(Method, [bool; 4]); 3] = [
+    (Method::No, [false, false, true, false]),
+    (Method::Rle, [true, true, true, false]),
+    (Method::Zip, [true, true, true, false]),
+];
+
+#[test]
+fn methods_and_sizes(rt: HostRuntime) -> Result<(), Fail> {
+    let region = head_of(rt.alloc(), &ONE_PIXEL)?
+        .parts()
+        .first()
+        .ok_or("a part")?
+        .window();
+    for (method, plain, linear, deep) in WRITTEN {
+        for (byte, is_deep, wanted) in [(0, false, plain), (1, false, linear), (0, true, deep)] {
+            let channels = [Channel {
+                name: Name::new(b"Y").ok_or("a name")?,
+                kind: Kind::Half,
+                linear: byte,
+                xs: 1,
+                ys: 1,
+            }];
+            let shape = Shape {
+                channels: &channels,
+                region,
+            };
+            assert_eq!(rt; can_pack(method, &shape, is_deep), wanted, "{method:?}");
+        }
+    }
+    for (method, wanted) in SIZES {
+        for (size, wanted) in [0, 3, 4, 5].into_iter().zip(wanted) {
+            assert_eq!(rt; is_size(method, 4, size), wanted, "{method:?} {size}");
+        }
+    }
+    Ok(())
+}

@@ -1,0 +1,390 @@
+//! Requests: the bytes of buffers and the places of slices in them, and each reason to refuse.
+
+ghost use Rattle.exr_asked.specs.Demand.{demand_of, IsModest};
+
+use super::asked::{ALL, Request, asked_of};
+use exr_base::{Kind, Refusal};
+use exr_fixtures::{ChannelSpec, ONE_PIXEL, Picture, Y, flagged_head};
+use exr_header::{FileHead, read_head};
+use exr_layout::{LayoutFault, MatchFault};
+use exr_request::{
+    Arrangement, Asked, Choices, Granted, RequestFault, RequestStop, Wanted, request,
+};
+use std::alloc::Global;
+use std::test::Fail;
+
+/// A slice in a buffer: where its plane begins and the bytes from one of its rows to the next, its place in a row and the
+/// bytes from one column to the next, and its channel.
+type Placed = (u64, u64, u64, u64, Option<u32>);
+
+/// The picture of a part, what is asked of it, and the bytes of the buffer with its slices, or why that is refused.
+type Case = (
+    Picture<'static>,
+    Request,
+    Result<(u64, &'static [Placed]), RequestStop>,
+);
+
+const B: ChannelSpec<'static> = ChannelSpec { name: b"B", ..Y };
+
+const G: ChannelSpec<'static> = ChannelSpec { name: b"G", ..Y };
+
+const R: ChannelSpec<'static> = ChannelSpec { name: b"R", ..Y };
+
+const Z: ChannelSpec<'static> = ChannelSpec {
+    name: b"Z",
+    kind: 2,
+    ..Y
+};
+
+/// Samples at each second column, and at each second line too.
+const U: ChannelSpec<'static> = ChannelSpec {
+    name: b"U",
+    sampling: (2, 1),
+    ..Y
+};
+
+const HALVED: ChannelSpec<'static> = ChannelSpec {
+    sampling: (2, 2),
+    ..Y
+};
+
+/// Four by three pixels.
+const COLOURS: Picture<'static> = Picture {
+    channels: &[B, G, R],
+    window: [0, 0, 3, 2],
+    ..ONE_PIXEL
+};
+
+const DEPTH: Picture<'static> = Picture {
+    channels: &[G, Z],
+    window: [0, 0, 3, 2],
+    ..ONE_PIXEL
+};
+
+/// Four by four pixels about (0, 0).
+const SPARSE: Picture<'static> = Picture {
+    channels: &[HALVED],
+    window: [-2, -2, 1, 1],
+    ..ONE_PIXEL
+};
+
+const MIXED: Picture<'static> = Picture {
+    channels: &[U, Y],
+    window: [-2, -2, 1, 1],
+    ..ONE_PIXEL
+};
+
+/// 2^29 pixels and 32,768 more.
+const LARGE: Picture<'static> = Picture {
+    window: [0, 0, 32767, 16384],
+    ..ONE_PIXEL
+};
+
+/// Two pixels whose last one stands at the greatest column and line, or whose first one at the least.
+const END: Picture<'static> = Picture {
+    window: [(1 << 30) - 1, 1 << 30, 1 << 30, 1 << 30],
+    ..ONE_PIXEL
+};
+
+const BEGINNING: Picture<'static> = Picture {
+    window: [-(1 << 30), -(1 << 30), 1 - (1 << 30), -(1 << 30)],
+    ..ONE_PIXEL
+};
+
+const PIXELS: Request = Request {
+    layout: Arrangement::Pixels,
+    ..ALL
+};
+
+const LINES: Request = Request {
+    layout: Arrangement::Lines,
+    ..ALL
+};
+
+const WINDOW: Result<(u64, &[Placed]), RequestStop> = Err(RequestStop::Fault(RequestFault::Window));
+
+const CASES: &[Case] = &[
+    // pixel by pixel, line by line and plane by plane, also with padding
+    (
+        COLOURS,
+        Request { pad: 2, ..PIXELS },
+        Ok((
+            96,
+            &[
+                (0, 32, 0, 8, Some(0)),
+                (0, 32, 2, 8, Some(1)),
+                (0, 32, 4, 8, Some(2)),
+            ],
+        )),
+    ),
+    (
+        DEPTH,
+        LINES,
+        Ok((72, &[(0, 24, 0, 2, Some(0)), (0, 24, 8, 4, Some(1))])),
+    ),
+    (
+        DEPTH,
+        ALL,
+        Ok((72, &[(0, 8, 0, 2, Some(0)), (24, 16, 0, 4, Some(1))])),
+    ),
+    (
+        DEPTH,
+        Request { pad: 1, ..LINES },
+        Ok((75, &[(0, 25, 0, 2, Some(0)), (0, 25, 8, 4, Some(1))])),
+    ),
+    (
+        DEPTH,
+        Request { pad: 1, ..ALL },
+        Ok((78, &[(0, 9, 0, 2, Some(0)), (27, 17, 0, 4, Some(1))])),
+    ),
+    // channels of the request, of which the part lacks one
+    (
+        ONE_PIXEL,
+        Request {
+            channels: Some(&[(b"Y", None), (b"A", None)]),
+            ..ALL
+        },
+        Ok((4, &[(0, 2, 0, 2, Some(0)), (2, 2, 0, 2, None)])),
+    ),
+    (
+        DEPTH,
+        Request {
+            channels: Some(&[(b"Z", Some(Kind::Float)), (b"A", Some(Kind::Uint))]),
+            ..PIXELS
+        },
+        Ok((96, &[(0, 32, 0, 8, Some(1)), (0, 32, 4, 8, None)])),
+    ),
+    (
+        ONE_PIXEL,
+        Request {
+            channels: Some(&[(b"Y", None), (b"Y", None)]),
+            ..ALL
+        },
+        Err(RequestStop::Fault(RequestFault::Layout(LayoutFault::TwiceChannel {
+            first: 0,
+            second: 1,
+        }))),
+    ),
+    (
+        ONE_PIXEL,
+        Request {
+            channels: Some(&[(b"A", None), (b"Y", Some(Kind::Float))]),
+            ..ALL
+        },
+        Err(RequestStop::Fault(RequestFault::Match(MatchFault::KindDiffers { slice: 1 }))),
+    ),
+    // windows, also of pixels without samples
+    (SPARSE, ALL, Ok((8, &[(0, 4, 0, 2, Some(0))]))),
+    (
+        SPARSE,
+        Request {
+            window: Some([-1, -1, 1, 1]),
+            ..ALL
+        },
+        Ok((2, &[(0, 2, 0, 2, Some(0))])),
+    ),
+    (
+        SPARSE,
+        Request {
+            window: Some([1, 1, 1, 1]),
+            ..ALL
+        },
+        Ok((0, &[(0, 0, 0, 2, Some(0))])),
+    ),
+    (
+        ONE_PIXEL,
+        Request {
+            window: Some([0, 0, 1, 0]),
+            ..ALL
+        },
+        WINDOW,
+    ),
+    (
+        ONE_PIXEL,
+        Request {
+            window: Some([0, 0, -1, 0]),
+            ..ALL
+        },
+        WINDOW,
+    ),
+    (END, ALL, Ok((4, &[(0, 4, 0, 2, Some(0))]))),
+    (
+        END,
+        Request {
+            window: Some([1 << 30, 1 << 30, 1 << 30, 1 << 30]),
+            ..ALL
+        },
+        Ok((2, &[(0, 2, 0, 2, Some(0))])),
+    ),
+    (BEGINNING, ALL, Ok((4, &[(0, 4, 0, 2, Some(0))]))),
+    (
+        BEGINNING,
+        Request {
+            window: Some([i32::MIN, i32::MIN, i32::MAX, i32::MAX]),
+            ..ALL
+        },
+        WINDOW,
+    ),
+    // the largest buffer, and a larger one
+    (
+        LARGE,
+        Request {
+            window: Some([0, 1, 32767, 16384]),
+            ..ALL
+        },
+        Ok((1073741824, &[(0, 65536, 0, 2, Some(0))])),
+    ),
+    (LARGE, ALL, Err(RequestStop::Fault(RequestFault::TooLarge))),
+    // a part that is not there, and a method that is no matter of a request
+    (
+        Picture {
+            method: 3,
+            ..ONE_PIXEL
+        },
+        ALL,
+        Ok((2, &[(0, 2, 0, 2, Some(0))])),
+    ),
+    (
+        ONE_PIXEL,
+        Request { part: 1, ..ALL },
+        Err(RequestStop::Fault(RequestFault::NoPart)),
+    ),
+    // channels of unlike samplings
+    (
+        MIXED,
+        LINES,
+        Ok((48, &[(0, 12, 0, 2, Some(0)), (0, 12, 4, 2, Some(1))])),
+    ),
+    (
+        MIXED,
+        PIXELS,
+        Err(RequestStop::Fault(RequestFault::Mixed { slice: 1 })),
+    ),
+];
+
+/// The slices of what is granted.
+fn placed_in(alloc: Global, granted: &Granted) -> Result<Vec<Placed>, Fail> {
+    let mut placed = Vec::new(alloc);
+    for plane in granted.layout.planes() {
+        for run in &plane.runs {
+            for slice in &run.slices {
+                let number = placed.len();
+                let channel = if number < granted.plan.slice_count() {
+                    granted.plan.channel(number)
+                } else {
+                    return Err("no such slice".into());
+                };
+                let place = run.at.saturating_add(slice.at);
+                placed.push((plane.base, plane.stride, place, run.stride, channel))?;
+            }
+        }
+    }
+    Ok(placed)
+}
+
+/// What is granted of a head, or why that is refused.
+fn answer(
+    alloc: Global,
+    head: &FileHead,
+    asked: &Asked,
+) -> Result<Result<Granted, RequestStop>, Fail>
+    requires { IsModest (demand_of asked.now) }
+{
+    match request(alloc, head, asked) {
+        Ok(granted) => Ok(Ok(granted)),
+        Err(Refusal::Fault(stop)) => Ok(Err(stop)),
+        Err(Refusal::NoMemory) => Err("no memory".into()),
+    }
+}
+
+/// The same of the head of a picture under some flags of the version word, and with more attributes.
+fn answered(
+    alloc: Global,
+    flags: u32,
+    picture: &Picture,
+    more: &[u8],
+    request: &Request,
+) -> Result<Result<Granted, RequestStop>, Fail> {
+    let (head, _) = read_head(alloc, &flagged_head(alloc, flags, picture, more)?)?;
+    let asked = asked_of(alloc, request)?;
+    answer(alloc, &head, &asked)
+}
+
+#[test]
+fn answers(rt: HostRuntime) -> Result<(), Fail> {
+    let alloc = rt.alloc();
+    for (picture, request, wanted) in CASES {
+        match (answered(alloc, 0, picture, b"", request)?, wanted) {
+            (Ok(granted), Ok((bytes, slices))) => {
+                assert_eq!(rt; granted.layout.buffer(), *bytes);
+                assert_eq!(rt; placed_in(alloc, &granted)?.as_slice(), *slices);
+            }
+            (Err(stop), Err(wanted)) => assert_eq!(rt; stop, *wanted),
+            _ => return Err("another answer".into()),
+        }
+    }
+    Ok(())
+}
+
+/// The flag of a file with a deep part, and the attributes that such a part has besides.
+const DEEP: (u32, &[u8]) = (
+    0x800,
+    b"type\0string\0\x0c\0\0\0deepscanlineversion\0int\0\x04\0\0\0\x01\0\0\0",
+);
+
+// A deep part is refused before its window, and after a part that is not there.
+#[test]
+fn deep_parts(rt: HostRuntime) -> Result<(), Fail> {
+    let (flags, more) = DEEP;
+    let far = Request {
+        window: Some([7, 7, 7, 7]),
+        ..ALL
+    };
+    let absent = Request { part: 1, ..ALL };
+    for (request, wanted) in [
+        (ALL, RequestStop::Form),
+        (far, RequestStop::Form),
+        (absent, RequestStop::Fault(RequestFault::NoPart)),
+    ] {
+        let stop = answered(rt.alloc(), flags, &ONE_PIXEL, more, &request)?.err();
+        assert_eq!(rt; stop, Some(wanted));
+    }
+    Ok(())
+}
+
+#[test]
+fn choices_and_numbers(rt: HostRuntime) -> Result<(), Fail> {
+    let asked = Asked::new(Choices::none());
+    assert_eq!(rt; asked.layout, Arrangement::Planar);
+    assert_eq!(rt; asked.window, None);
+    assert!(rt; asked.channels.is_none());
+    assert_eq!(rt; (asked.part, asked.pad, asked.fill), (0, 0, 0));
+    let wanted = Wanted {
+        name: exr_base::Name::new(b"Y").ok_or("a name")?,
+        kind: Some(Kind::Half),
+    };
+    let asked = Asked::new(Choices {
+        part: Some(1),
+        window: None,
+        layout: Some(Arrangement::Lines),
+        channels: Some(vec![in rt.alloc(); wanted]?),
+        pad: Some(2),
+        fill: Some(3),
+        byte: Some(4),
+        workers: Some(5),
+    });
+    assert_eq!(rt; asked.layout, Arrangement::Lines);
+    assert_eq!(rt; asked.channels.as_ref().map(|wanted| wanted.len()), Some(1));
+    assert_eq!(rt; (asked.part, asked.pad, asked.fill), (1, 2, 3));
+    for (fault, number) in [
+        (RequestFault::NoPart, 1),
+        (RequestFault::Window, 3),
+        (RequestFault::Mixed { slice: 1 }, 4),
+        (RequestFault::Layout(LayoutFault::Empty { plane: 0 }), 5),
+        (RequestFault::TooLarge, 6),
+        (RequestFault::Match(MatchFault::WindowOutside), 7),
+    ] {
+        assert_eq!(rt; fault.number(), number);
+    }
+    Ok(())
+}
