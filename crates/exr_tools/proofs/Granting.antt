@@ -1,9 +1,10 @@
 -- What a grant says of its part, of the window and of the layout; and stops of what is asked.
 use Rattle.std.proofs.Common.{◌≡◌, ◌<◌, ◌≤◌, ◌^◌, ℕ, false, not, IsTrue, List, ◌++◌, take, drop, length, Ok, refl, sym, subst}
-use Rattle.std.specs.Prelude.{int_le, int_lt}
+use Rattle.std.specs.Prelude.{int_lt}
 use Rattle.std.proofs.lemmas.Bool.{and_parts}
 use Rattle.std.proofs.lemmas.List.{take_at}
-use Rattle.exr_base.proofs.Logic.{not_either, lt_false, le_true}
+use Rattle.exr_base.proofs.Logic.{not_either, lt_false}
+use Rattle.exr_base.proofs.Sides.{inside_is}
 use Rattle.exr_base.specs.declared.shape.Box2i.{Box2i}
 use Rattle.exr_base.specs.declared.refusal.Refusal.{Refusal}
 use Rattle.exr_base.specs.declared.refusal.Refusal.TheVariants as refusal
@@ -12,7 +13,7 @@ use Rattle.exr_chunks.specs.Heads.{Header, is_deep}
 use Rattle.exr_chunks.specs.Region.{no_header, header_at}
 use Rattle.exr_layout.specs.Plan.{Matching}
 use Rattle.exr_layout.specs.Validation.{Frame}
-use Rattle.exr_base.specs.Boxes.{is_empty, is_side_inside, is_inside, IsInside}
+use Rattle.exr_base.specs.Boxes.{is_empty, is_inside, IsInside}
 use Rattle.exr_layout.specs.Plan.{IsPlanOf}
 use Rattle.exr_request.specs.declared.fault.RequestStop.{RequestStop}
 use Rattle.exr_request.specs.declared.fault.RequestStop.TheVariants as stops
