@@ -1,6 +1,6 @@
-//! Reads pictures that another program wrote, which lie in data/. Of each it extracts all samples and compares them, byte
-//! for byte, with those that the other program extracted. Then it damages each chunk in turn, a bit, a byte or the end of it,
-//! and unpacks that: the answer has to be raw data or the fault of the chunk's method.
+//! Reads pictures that were made by hand or by another program, which lie in data/. Of each it extracts all samples and
+//! compares them, byte for byte, with those that it has to give. Then it damages each chunk in turn, a bit, a byte or the
+//! end of it, and unpacks that: the answer has to be raw data or the fault of the chunk's method.
 #![tactic(auto)]
 
 mod damage;
