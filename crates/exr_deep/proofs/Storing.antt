@@ -1,0 +1,2 @@
+-- A
+use Rattle.std.proofs.Common.{◌≡◌}

@@ -1,0 +1,34 @@
+//! The sample count table from the number of samples of each pixel.
+
+ghost use Rattle.std.specs.Prelude.{◌≡◌, ℕ, ◌+◌, ◌*◌, ◌<◌, ◌≤◌, ◌^◌, length, take};
+ghost use Rattle.exr_deep.specs.Counts.{running_at, table_of};
+ghost use Rattle.exr_deep.specs.Steps.{entries_of};
+
+/// Writes the entries of one row.
+fn put_row(counts: &[u32], width: usize, row: usize, table: &mut [u8])
+    requires room { length table.old ≡ 4 * length counts.now }
+    requires row { row * width + width ≤ length counts.now }
+    requires ints { (k : ℕ) → k < length counts.now → running_at width counts.now k < 2 ^ 31 }
+    requires so_far { take (4 * (row * width)) table.old ≡ entries_of width counts.now (row * width) }
+    ensures { take (4 * (row * width + width)) table.new ≡ entries_of width counts.now (row * width + width) }
+{
+    let first = row * width;
+    let mut samples = 0u32;
+    for pixel in first..first + width {
+        samples += counts[pixel];
+        let at = 4 * pixel;
+        table[at..at + 4].copy_from_slice(&samples.to_le_bytes());
+    }
+}
+
+/// Writes the table of all rows.
+pub(crate) fn put_table(counts: &[u32], width: usize, rows: usize, table: &mut [u8])
+    requires room { length table.old ≡ 4 * length counts.now }
+    requires pixels { length counts.now ≡ rows * width }
+    requires ints { (k : ℕ) → k < length counts.now → running_at width counts.now k < 2 ^ 31 }
+    ensures { table.new ≡ table_of width counts.now }
+{
+    for row in 0..rows {
+        put_row(counts, width, row, table);
+    }
+}
