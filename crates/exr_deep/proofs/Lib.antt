@@ -1,4 +1,5 @@
 pub mod Rows
 pub mod Reading
 pub mod Running
-pub mod Storing
+pub mod Writing
+pub mod Fitting

@@ -1,6 +1,6 @@
 //! How many pixels and samples there are, and how many bytes they take.
 
-ghost use Rattle.std.specs.Prelude.{◌≡◌, ◌+◌, ◌*◌, ◌≤◌, ◌<◌, ◌^◌, true, false, length, take, sum, MatchOption};
+ghost use Rattle.std.specs.Prelude.{◌≡◌, ◌==◌, ◌&&◌, nat_le, ◌+◌, ◌*◌, ◌≤◌, ◌<◌, ◌^◌, true, false, length, take, sum, MatchOption};
 ghost use Rattle.exr_base.specs.Shape.{IsShape, IsRegion, width_of, height_of};
 ghost use Rattle.exr_deep.specs.Body.{content_of};
 ghost use Rattle.exr_deep.specs.Deep.{sample_bytes_of, are_ints, fits};
@@ -91,9 +91,16 @@ pub fn fits(shape: &Shape<'_>, block: &DeepBlock) -> bool
     match count_samples(&block.counts, width, rows) {
         None => false,
         Some(samples) => {
-            block.samples.len() as u64 == samples * sample_bytes(shape.channels)
-                && 4 * (rows * width) <= LARGEST
-                && block.samples.len() <= LARGEST
+            let size = samples * sample_bytes(shape.channels);
+            are_sizes(rows * width, block.samples.len() as u64, size)
         }
     }
+}
+
+/// Whether samples have the size that is computed, and neither they nor the table of so many pixels are too large.
+fn are_sizes(pixels: usize, said: u64, computed: u64) -> bool
+    requires { pixels ≤ 2 ^ 40 }
+    ensures { result ≡ ((said == computed) && nat_le (4 * pixels) (2 ^ 26) && nat_le said (2 ^ 26)) }
+{
+    said == computed && 4 * pixels <= LARGEST && said <= LARGEST as u64
 }

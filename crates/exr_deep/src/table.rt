@@ -1,8 +1,18 @@
 //! The sample count table from the number of samples of each pixel.
 
-ghost use Rattle.std.specs.Prelude.{◌≡◌, ℕ, ◌+◌, ◌*◌, ◌<◌, ◌≤◌, ◌^◌, length, take};
+ghost use Rattle.std.specs.Prelude.{◌≡◌, ℕ, ◌+◌, ◌*◌, ◌<◌, ◌≤◌, ◌^◌, ◌++◌, length, take};
+ghost use Rattle.std.specs.Int.{w32, to_le_bytes};
 ghost use Rattle.exr_deep.specs.Counts.{running_at, table_of};
 ghost use Rattle.exr_deep.specs.Steps.{entries_of};
+
+/// Writes the entry of a pixel.
+fn put_entry(table: &mut [u8], pixel: usize, samples: u32)
+    requires { 4 * pixel + 4 ≤ length table.old }
+    ensures { take (4 * pixel + 4) table.new ≡ take (4 * pixel) table.old ++ to_le_bytes w32 samples }
+{
+    let at = 4 * pixel;
+    table[at..at + 4].copy_from_slice(&samples.to_le_bytes());
+}
 
 /// Writes the entries of one row.
 fn put_row(counts: &[u32], width: usize, row: usize, table: &mut [u8])
@@ -16,8 +26,7 @@ fn put_row(counts: &[u32], width: usize, row: usize, table: &mut [u8])
     let mut samples = 0u32;
     for pixel in first..first + width {
         samples += counts[pixel];
-        let at = 4 * pixel;
-        table[at..at + 4].copy_from_slice(&samples.to_le_bytes());
+        put_entry(table, pixel, samples);
     }
 }
 

@@ -1,0 +1,30 @@
+-- Content that can be stored.
+use Rattle.std.proofs.Common.{◌≡◌, ℕ, ◌*◌, ◌^◌, Bool, true, false, eqb, leb, ◌&&◌, List, length, refl, ap, ap₂, ◌∙◌, arith}
+use Rattle.std.proofs.lemmas.Bool.{eq-eqb, ne_eqb}
+use Rattle.exr_base.specs.declared.shape.Box2i.{Box2i}
+use Rattle.exr_base.specs.declared.channel.Channel.{Channel}
+use Rattle.exr_base.specs.Shape.{width_of}
+use Rattle.exr_deep.specs.Body.{DeepContent}
+use Rattle.exr_deep.specs.Deep.{fits, are_ints, pixels_of, samples_size_of}
+
+all_of : (a b d e f : Bool) → a ≡ true → b ≡ true → (a && b && d && e && f) ≡ (d && e && f)
+all_of a b d e f x y = rw (x, y) refl
+
+not_first : (a b d e f : Bool) → a ≡ false → (a && b && d && e && f) ≡ false
+not_first a b d e f x = rw x refl
+
+not_second : (a b d e f : Bool) → a ≡ true → b ≡ false → (a && b && d && e && f) ≡ false
+not_second a b d e f x y = rw (x, y) refl
+
+pub not_counts : (channels : List Channel) (region : Box2i) (content : DeepContent) → (length content.counts ≡ pixels_of region → ⊥) → fits channels region content ≡ false
+unfolding fits
+not_counts channels region content other = not_first _ _ _ _ _ (ne_eqb (length content.counts) (pixels_of region) other)
+
+pub not_ints_fit : (channels : List Channel) (region : Box2i) (content : DeepContent) → length content.counts ≡ pixels_of region → are_ints (width_of region) content.counts ≡ false → fits channels region content ≡ false
+unfolding fits
+not_ints_fit channels region content long are = not_second _ _ _ _ _ (eq-eqb (length content.counts) (pixels_of region) long) are
+
+pub fits_by_sizes : (channels : List Channel) (region : Box2i) (content : DeepContent) → length content.counts ≡ pixels_of region → are_ints (width_of region) content.counts ≡ true
+    → fits channels region content ≡ ((eqb (length content.samples) (samples_size_of channels content.counts) && leb (4 * pixels_of region) (2 ^ 26)) && leb (length content.samples) (2 ^ 26))
+unfolding fits
+fits_by_sizes channels region content long are = all_of _ _ _ _ _ (eq-eqb (length content.counts) (pixels_of region) long) are

@@ -1,2 +1,0 @@
--- A
-use Rattle.std.proofs.Common.{◌≡◌}
