@@ -3,3 +3,4 @@ pub mod Reading
 pub mod Running
 pub mod Writing
 pub mod Fitting
+pub mod Again

@@ -18,7 +18,7 @@ entry_before_is width first n table is = ap (λ b. cond b (pos 0) (entry_at tabl
 below_is : (a b : ℤ) → a <ℤ b → int_lt a b ≡ true
 below_is a b h = grind (arith, ints)
 
-not_below_is : (a b : ℤ) → b ≤ℤ a → int_lt a b ≡ false
+pub not_below_is : (a b : ℤ) → b ≤ℤ a → int_lt a b ≡ false
 not_below_is a b h = grind (arith, ints)
 
 pub falls_here : (width first n : ℕ) (table : List ℕ) (entry before : ℤ) → IsInRow width first n → entry ≡ entry_at table n → before ≡ entry_before_in first table n → entry <ℤ before → falls_at width table n ≡ true

@@ -2,6 +2,7 @@
 
 ghost use Rattle.std.specs.Prelude.{◌≡◌, ◌+◌, ◌*◌, ◌<◌, ◌≤◌, ◌^◌, length, take, sum, true, MatchResult, Some, None};
 ghost use Rattle.exr_deep.specs.Counts.{entry_at, counts_of, first_fall_of, falls_at};
+ghost use Rattle.exr_deep.specs.Deep.{are_ints};
 ghost use Rattle.exr_deep.specs.Steps.{AreCounted, IsFirstFall};
 
 /// An entry of a table.
@@ -56,6 +57,7 @@ pub(crate) fn fill_counts(
     ensures counts { MatchResult result
         (λ samples. counts.new ≡ counts_of width table.now (rows * width))
         (λ pixel. pixel < rows * width) }
+    ensures ints { MatchResult result (λ samples. are_ints width counts.new ≡ true) (λ pixel. pixel < rows * width) }
     ensures samples { MatchResult result (λ samples. samples ≡ sum counts.new) (λ pixel. pixel < rows * width) }
     ensures small { MatchResult result (λ samples. samples ≤ rows * 2 ^ 31) (λ pixel. pixel < rows * width) }
 {

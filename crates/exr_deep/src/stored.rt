@@ -12,6 +12,7 @@ use std::alloc::Global;
 
 /// The raw data, `size` bytes, of stored data, which is not copied where it is raw. `broken` is the fault of run lengths
 /// that do not give it.
+#[tactic(auto, unfolding(crate::specs::Stored::unpacked_of))]
 pub(crate) fn unpack_stored(
     alloc: Global,
     stored: Vec<u8>,
@@ -32,6 +33,7 @@ pub(crate) fn unpack_stored(
 }
 
 /// The data that is stored for raw data under a method, where it is not the raw data.
+#[tactic(auto, unfolding(crate::specs::Stored::unpacked_of, crate::specs::Stored::stored_of))]
 pub(crate) fn pack_smaller(
     alloc: Global,
     method: Method,
@@ -47,6 +49,7 @@ pub(crate) fn pack_smaller(
 }
 
 /// The run lengths of raw data, where they are smaller.
+#[tactic(auto, unfolding(crate::specs::Stored::unpacked_of, crate::specs::Stored::stored_of))]
 fn pack_runs(alloc: Global, raw: &[u8]) -> Result<Option<Vec<u8>>, NoMemory>
     ensures exact { IfOk result (λ smaller. MatchOption smaller (stored_of method.Rle raw.now ≡ raw.now) (λ packed. stored_of method.Rle raw.now ≡ packed.items)) }
     ensures restores { IfOk result (λ smaller. unpacked_of (length raw.now) (stored_of method.Rle raw.now) ≡ Ok raw.now) }

@@ -5,7 +5,7 @@ ghost use Rattle.exr_base.specs.Refusal.{Gives};
 ghost use Rattle.exr_base.specs.Shape.{IsShape, width_of};
 ghost use Rattle.exr_deep.specs.Body.{content_of, body_of};
 ghost use Rattle.exr_deep.specs.Counts.{counts_in};
-ghost use Rattle.exr_deep.specs.Deep.{deep_of, fits, pixels_of, samples_in};
+ghost use Rattle.exr_deep.specs.Deep.{deep_of, fits, are_ints, pixels_of, samples_in};
 
 use crate::block::{DeepBlock, DeepPacked};
 use crate::counts::fill_counts;
@@ -64,6 +64,7 @@ fn count(
     requires few { rows ≤ 2 ^ 20 }
     requires small { rows * width ≤ 2 ^ 24 }
     ensures exact { Gives (λ counted. counted.counts.items) result (counts_in width table.now (rows * width)) }
+    ensures ints { IfOk result (λ counted. are_ints width counted.counts.items ≡ true) }
     ensures samples { IfOk result (λ counted. counted.samples ≡ sum counted.counts.items) }
     ensures small { IfOk result (λ counted. counted.samples ≤ rows * 2 ^ 31) }
 {
@@ -77,6 +78,7 @@ fn count(
 }
 
 /// The samples, where their size is said as it is computed.
+#[tactic(auto, unfolding(crate::specs::Deep::samples_in))]
 fn unpack_samples(
     alloc: Global,
     samples: Vec<u8>,
