@@ -9,10 +9,10 @@ use Rattle.std.proofs.lemmas.List.{take_at, drop_at, drop-drop}
 use Rattle.std.proofs.lemmas.List.Concat.{flat_map-cons}
 use Rattle.std.proofs.lemmas.List.FromFn.{length-map-range_with_len, get_or-map-range_with_len}
 use Rattle.exr_deep.specs.declared.fault.DeepFault.{DeepFault}
-use Rattle.exr_deep.specs.Counts.{entry_at, entry_before, falls_at, count_at, first_fall_of, counts_of, unless_fall, counts_in, running_at, table_of}
+use Rattle.exr_deep.specs.Counts.{entry_at, entry_before, falls_at, count_at, counts_in, running_at, table_of}
 use Rattle.exr_deep.specs.Steps.{AreCounted, AreInts, entry_before_in, running_before_in}
 use Rattle.exr_deep.proofs.Rows.{IsInRow}
-use Rattle.exr_deep.proofs.Reading.{entry_before_is, not_below_is, no_fall, all_counted}
+use Rattle.exr_deep.proofs.Reading.{entry_before_is, not_below_is, no_fall, all_counted, counted_in}
 use Rattle.exr_deep.proofs.Running.{running_here, row_at}
 
 -- ---- counts that are written and read
@@ -65,11 +65,9 @@ counted_again width rows counts long are = record {
     before k lt = entry_before_is width (first k) k (table_of width counts) (row_at width rows k lt) ∙ before_again width (first k) k counts (omega arith) are (let is = row_at width rows k lt in is.from)
 
 pub counts_again : (width rows : ℕ) (counts : List ℕ) → length counts ≡ rows * width → AreInts width counts (length counts) → counts_in width (table_of width counts) (rows * width) ≡ Ok counts
-unfolding counts_in
 counts_again width rows counts long are =
     let counted = counted_again width rows counts long are in
-    ap (λ fall. unless_fall fall (counts_of width (table_of width counts) (rows * width))) (no_fall width (rows * width) (table_of width counts) counts counted)
-    ∙ ap Ok (sym (all_counted width (rows * width) (table_of width counts) counts long counted))
+    counted_in width (table_of width counts) (rows * width) counts (no_fall width (rows * width) (table_of width counts) counts counted) (all_counted width (rows * width) (table_of width counts) counts long counted)
 
 -- ---- counts that are read and have running sums
 

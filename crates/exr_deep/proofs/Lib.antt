@@ -4,3 +4,4 @@ pub mod Running
 pub mod Writing
 pub mod Fitting
 pub mod Again
+pub mod Chain

@@ -1,5 +1,5 @@
 -- Counts from a table, pixel by pixel.
-use Rattle.std.proofs.Common.{◌≡◌, ℕ, ℤ, pos, nat_abs, int_lt, ◌-ℤ◌, ◌≤ℤ◌, ◌<ℤ◌, ◌+◌, ◌-◌, ◌*◌, ◌<◌, ◌≤◌, Bool, true, false, cond, eqb, ltb, List, length, get_or, set, take, map, Option, Some, None, inl, inr, zero-add, refl, sym, ap, ap₂, subst, ◌∙◌, arith}
+use Rattle.std.proofs.Common.{◌≡◌, ℕ, ℤ, pos, nat_abs, int_lt, ◌-ℤ◌, ◌≤ℤ◌, ◌<ℤ◌, ◌+◌, ◌-◌, ◌*◌, ◌<◌, ◌≤◌, Bool, true, false, cond, eqb, ltb, List, length, get_or, set, take, map, Option, Some, None, Ok, Err, inl, inr, zero-add, refl, sym, ap, ap₂, subst, ◌∙◌, arith}
 use Rattle.std.specs.List.{range_with_len, position, position_or_len, sum}
 use Rattle.std.proofs.lemmas.Bool.{cases_lt, ne_eqb, lt-ltb, le-ltb}
 use Rattle.std.proofs.lemmas.List.{take_more_set, take_all, get_or-set_same, get_or-set_other}
@@ -7,7 +7,8 @@ use Rattle.std.proofs.lemmas.List.Sums.{sum_by_push}
 use Rattle.std.proofs.lemmas.Int.{ints}
 use Rattle.std.proofs.lemmas.List.Sums.{position_or_len_is}
 use Rattle.std.proofs.lemmas.List.FromFn.{length-range_with_len, get_or-range_with_len, fill_by_all}
-use Rattle.exr_deep.specs.Counts.{entry_at, entry_before, falls_at, count_at, first_fall_of, counts_of}
+use Rattle.exr_deep.specs.declared.fault.DeepFault.TheVariants as fault
+use Rattle.exr_deep.specs.Counts.{entry_at, entry_before, falls_at, count_at, first_fall_of, counts_of, unless_fall, counts_in}
 use Rattle.exr_deep.specs.Steps.{AreCounted, IsFirstFall, entry_before_in}
 use Rattle.exr_deep.proofs.Rows.{IsInRow, is_first}
 
@@ -86,3 +87,11 @@ fall_found width pixels pixel table inside is =
 pub all_counted : (width pixels : ℕ) (table counts : List ℕ) → length counts ≡ pixels → AreCounted width table pixels counts → counts ≡ counts_of width table pixels
 unfolding counts_of
 all_counted width pixels table counts long are = fill_by_all (count_at width table) counts pixels 0 long are.counted
+
+pub counted_in : (width : ℕ) (table : List ℕ) (pixels : ℕ) (counts : List ℕ) → first_fall_of width table pixels ≡ None → counts ≡ counts_of width table pixels → counts_in width table pixels ≡ Ok counts
+unfolding counts_in
+counted_in width table pixels counts rise are = ap (λ fall. unless_fall fall (counts_of width table pixels)) rise ∙ ap Ok (sym are)
+
+pub fall_in : (width : ℕ) (table : List ℕ) (pixels pixel : ℕ) → first_fall_of width table pixels ≡ Some pixel → counts_in width table pixels ≡ Err (fault.CountsFall pixel)
+unfolding counts_in
+fall_in width table pixels pixel fall = ap (λ first. unless_fall first (counts_of width table pixels)) fall

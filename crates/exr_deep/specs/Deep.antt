@@ -55,20 +55,28 @@ unfoldable pub samples_in : ℕ → ℕ → List ℕ → Result (List ℕ) DeepF
 samples_in said computed samples =
     if said == computed then or_broken fault.DataBroken (unpacked_of said samples) else Err (fault.SizeDiffers said computed)
 
--- the content that a chunk stands for, or its first fault
-unfoldable pub deep_of : List Channel → Box2i → DeepBody → Result DeepContent DeepFault
-deep_of channels region body =
-    or_broken fault.TableBroken (unpacked_of (4 * pixels_of region) body.table)
-    >>= (λ table. counts_in (width_of region) table (pixels_of region)
-    >>= (λ counts. samples_in body.unpacked (samples_size_of channels counts) body.samples
+-- the content of so many pixels, or its first fault, where a sample of each channel takes so many bytes
+unfoldable pub content_in : ℕ → ℕ → ℕ → DeepBody → Result DeepContent DeepFault
+content_in width pixels sample_bytes body =
+    or_broken fault.TableBroken (unpacked_of (4 * pixels) body.table)
+    >>= (λ table. counts_in width table pixels
+    >>= (λ counts. samples_in body.unpacked (sum counts * sample_bytes) body.samples
     >>= (λ samples. Ok (record { counts = counts; samples = samples }))))
+
+-- the content that a chunk stands for, or its first fault
+abbrev pub deep_of : List Channel → Box2i → DeepBody → Result DeepContent DeepFault
+deep_of channels region body = content_in (width_of region) (pixels_of region) (sample_bytes_of channels) body
 
 -- ---- writing
 
--- the chunk that a writer stores
-unfoldable pub deep_pack_of : Method → Box2i → DeepContent → DeepBody
-deep_pack_of method region content = record {
-  table = stored_of method (table_of (width_of region) content.counts);
+-- the chunk that a writer stores for content whose rows have so many pixels
+abbrev pub body_for : Method → ℕ → DeepContent → DeepBody
+body_for method width content = record {
+  table = stored_of method (table_of width content.counts);
   samples = stored_of method content.samples;
   unpacked = length content.samples;
 }
+
+-- the chunk that a writer stores
+abbrev pub deep_pack_of : Method → Box2i → DeepContent → DeepBody
+deep_pack_of method region content = body_for method (width_of region) content

@@ -1,7 +1,9 @@
 -- How far the counts of a table were read, and how far a table was written.
-use Rattle.std.specs.Prelude.{◌≡◌, ◌<◌, ◌^◌, ◌-◌, ◌==◌, ℕ, ℤ, pos, List, map, true, false, slice_index, if◌then◌else◌}
+use Rattle.std.specs.Prelude.{◌≡◌, ◌<◌, ◌^◌, ◌-◌, ◌*◌, ◌==◌, ℕ, ℤ, pos, List, length, sum, map, true, false, slice_index, if◌then◌else◌}
 use Rattle.std.specs.List.{range_with_len, flat_map}
 use Rattle.std.specs.Int.{w32, to_le_bytes}
+use Rattle.exr_deep.specs.Body.{DeepContent}
+use Rattle.exr_deep.specs.Deep.{are_ints}
 use Rattle.exr_deep.specs.Counts.{entry_at, falls_at, count_at, running_at}
 
 -- the first n pixels have their counts, and none of their entries falls
@@ -29,3 +31,10 @@ entry_before_in first table n = if n == first then pos 0 else entry_at table (n 
 -- the running sum before pixel number n, where the row begins at pixel number first
 abbrev pub running_before_in : ℕ → ℕ → List ℕ → ℕ → ℕ
 running_before_in width first counts n = if n == first then 0 else running_at width counts (n - 1)
+
+-- content has a count for each pixel, with running sums that are ints, and samples of their size, which was said
+pub record IsWhole (width pixels sample_bytes unpacked : ℕ) (content : DeepContent) : Type 0 where
+  pub long : length content.counts ≡ pixels
+  pub ints : are_ints width content.counts ≡ true
+  pub sized : length content.samples ≡ sum content.counts * sample_bytes
+  pub said : length content.samples ≡ unpacked

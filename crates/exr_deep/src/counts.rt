@@ -1,7 +1,8 @@
 //! The number of samples of each pixel, from the sample count table.
 
-ghost use Rattle.std.specs.Prelude.{◌≡◌, ◌+◌, ◌*◌, ◌<◌, ◌≤◌, ◌^◌, length, take, sum, true, MatchResult, Some, None};
-ghost use Rattle.exr_deep.specs.Counts.{entry_at, counts_of, first_fall_of, falls_at};
+ghost use Rattle.std.specs.Prelude.{◌≡◌, ◌+◌, ◌*◌, ◌<◌, ◌≤◌, ◌^◌, length, take, sum, true, MatchResult, Ok, Err};
+ghost use Rattle.exr_deep.specs.Counts.{entry_at, counts_in};
+ghost use Rattle.exr_deep.specs.declared.fault.DeepFault.TheVariants as fault;
 ghost use Rattle.exr_deep.specs.Deep.{are_ints};
 ghost use Rattle.exr_deep.specs.Steps.{AreCounted, IsFirstFall};
 
@@ -51,12 +52,10 @@ pub(crate) fn fill_counts(
     requires there { length table.now ≡ 4 * length counts.old }
     requires pixels { length counts.old ≡ rows * width }
     requires few { rows ≤ 2 ^ 20 }
-    ensures fall { MatchResult result
-        (λ samples. first_fall_of width table.now (rows * width) ≡ None)
-        (λ pixel. first_fall_of width table.now (rows * width) ≡ Some pixel) }
-    ensures counts { MatchResult result
-        (λ samples. counts.new ≡ counts_of width table.now (rows * width))
-        (λ pixel. pixel < rows * width) }
+    ensures exact { MatchResult result
+        (λ samples. counts_in width table.now (rows * width) ≡ Ok counts.new)
+        (λ pixel. counts_in width table.now (rows * width) ≡ Err (fault.CountsFall pixel)) }
+    ensures within { MatchResult result (λ samples. length counts.new ≡ rows * width) (λ pixel. pixel < rows * width) }
     ensures ints { MatchResult result (λ samples. are_ints width counts.new ≡ true) (λ pixel. pixel < rows * width) }
     ensures samples { MatchResult result (λ samples. samples ≡ sum counts.new) (λ pixel. pixel < rows * width) }
     ensures small { MatchResult result (λ samples. samples ≤ rows * 2 ^ 31) (λ pixel. pixel < rows * width) }

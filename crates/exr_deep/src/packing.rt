@@ -3,12 +3,13 @@
 ghost use Rattle.std.specs.Prelude.{◌≡◌, ◌*◌, ◌≤◌, ◌^◌, length, true, IfOk, Ok};
 ghost use Rattle.exr_base.specs.Shape.{IsShape, width_of};
 ghost use Rattle.exr_deep.specs.Body.{content_of, body_of};
-ghost use Rattle.exr_deep.specs.Counts.{table_of, counts_in};
-ghost use Rattle.exr_deep.specs.Deep.{deep_of, deep_pack_of, fits, are_ints};
+ghost use Rattle.exr_deep.specs.Counts.{table_of};
+ghost use Rattle.exr_deep.specs.Deep.{deep_of, deep_pack_of, body_for, fits, are_ints};
+ghost use Rattle.exr_deep.specs.Stored.{unpacked_of};
 
 use crate::block::{DeepBlock, DeepPacked};
 use crate::sizes::{height_of, width_of};
-use crate::stored::pack_smaller;
+use crate::stored::{store, store_copy};
 use crate::table::put_table;
 use exr_base::{Method, NoMemory, Shape};
 use std::alloc::Global;
@@ -29,18 +30,30 @@ pub fn pack_deep(
     // Unpacking it gives the content back.
     ensures restores { IfOk result (λ body. deep_of shape.now.channels.now shape.now.region (body_of body) ≡ Ok (content_of block.now)) }
 {
-    let table = table_of(alloc, &block.counts, width_of(shape.region), height_of(shape.region))?;
-    let table = match pack_smaller(alloc, method, &table)? {
-        Some(packed) => packed,
-        None => table,
-    };
-    let samples = match pack_smaller(alloc, method, &block.samples)? {
-        Some(packed) => packed,
-        None => Vec::from_slice(alloc, &block.samples)?,
-    };
+    let width = width_of(shape.region);
+    let rows = height_of(shape.region);
+    pack_rows(alloc, method, width, rows, block)
+}
+
+/// The chunk that a writer stores for content whose rows have so many pixels.
+fn pack_rows(
+    alloc: Global,
+    method: Method,
+    width: usize,
+    rows: usize,
+    block: &DeepBlock,
+) -> Result<DeepPacked, NoMemory>
+    requires pixels { length block.now.counts.items ≡ rows * width }
+    requires small { rows * width ≤ 2 ^ 24 }
+    requires ints { are_ints width block.now.counts.items ≡ true }
+    ensures exact { IfOk result (λ body. body_of body ≡ body_for method width (content_of block.now)) }
+    ensures table { IfOk result (λ body. unpacked_of (4 * (rows * width)) body.table.items ≡ Ok (table_of width block.now.counts.items)) }
+    ensures samples { IfOk result (λ body. unpacked_of (length block.now.samples.items) body.samples.items ≡ Ok block.now.samples.items) }
+{
+    let table = table_of(alloc, &block.counts, width, rows)?;
     Ok(DeepPacked {
-        table,
-        samples,
+        table: store(alloc, method, table)?,
+        samples: store_copy(alloc, method, &block.samples)?,
         unpacked: block.samples.len() as u64,
     })
 }
@@ -53,11 +66,10 @@ fn table_of(
     rows: usize,
 ) -> Result<Vec<u8>, NoMemory>
     requires pixels { length counts.now ≡ rows * width }
-    requires small { 4 * (rows * width) ≤ 2 ^ 26 }
+    requires small { rows * width ≤ 2 ^ 24 }
     requires ints { are_ints width counts.now ≡ true }
     ensures exact { IfOk result (λ table. table.items ≡ table_of width counts.now) }
     ensures size { IfOk result (λ table. length table.items ≡ 4 * (rows * width)) }
-    ensures restores { IfOk result (λ table. counts_in width table.items (rows * width) ≡ Ok counts.now) }
 {
     let mut table = vec![in alloc; 0u8; 4 * counts.len()]?;
     put_table(counts, width, rows, &mut table);

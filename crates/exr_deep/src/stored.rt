@@ -32,9 +32,31 @@ pub(crate) fn unpack_stored(
     }
 }
 
+/// The data that is stored for raw data under a method.
+pub(crate) fn store(alloc: Global, method: Method, raw: Vec<u8>) -> Result<Vec<u8>, NoMemory>
+    ensures exact { IfOk result (λ stored. stored.items ≡ stored_of method raw.items) }
+    ensures restores { IfOk result (λ stored. unpacked_of (length raw.items) stored.items ≡ Ok raw.items) }
+{
+    match pack_smaller(alloc, method, &raw)? {
+        Some(packed) => Ok(packed),
+        None => Ok(raw),
+    }
+}
+
+/// The same, where the raw data is kept.
+pub(crate) fn store_copy(alloc: Global, method: Method, raw: &[u8]) -> Result<Vec<u8>, NoMemory>
+    ensures exact { IfOk result (λ stored. stored.items ≡ stored_of method raw.now) }
+    ensures restores { IfOk result (λ stored. unpacked_of (length raw.now) stored.items ≡ Ok raw.now) }
+{
+    match pack_smaller(alloc, method, raw)? {
+        Some(packed) => Ok(packed),
+        None => Ok(Vec::from_slice(alloc, raw)?),
+    }
+}
+
 /// The data that is stored for raw data under a method, where it is not the raw data.
 #[tactic(auto, unfolding(crate::specs::Stored::unpacked_of, crate::specs::Stored::stored_of))]
-pub(crate) fn pack_smaller(
+fn pack_smaller(
     alloc: Global,
     method: Method,
     raw: &[u8],

@@ -1,9 +1,10 @@
 //! The sample count table from the number of samples of each pixel.
 
-ghost use Rattle.std.specs.Prelude.{◌≡◌, ℕ, ◌+◌, ◌*◌, ◌<◌, ◌≤◌, ◌^◌, ◌++◌, length, take};
+ghost use Rattle.std.specs.Prelude.{◌≡◌, ◌+◌, ◌*◌, ◌≤◌, ◌++◌, true, length, take};
 ghost use Rattle.std.specs.Int.{w32, to_le_bytes};
-ghost use Rattle.exr_deep.specs.Counts.{running_at, table_of};
-ghost use Rattle.exr_deep.specs.Steps.{entries_of};
+ghost use Rattle.exr_deep.specs.Counts.{table_of};
+ghost use Rattle.exr_deep.specs.Steps.{AreInts, entries_of};
+ghost use Rattle.exr_deep.specs.Deep.{are_ints};
 
 /// Writes the entry of a pixel.
 fn put_entry(table: &mut [u8], pixel: usize, samples: u32)
@@ -18,7 +19,7 @@ fn put_entry(table: &mut [u8], pixel: usize, samples: u32)
 fn put_row(counts: &[u32], width: usize, row: usize, table: &mut [u8])
     requires room { length table.old ≡ 4 * length counts.now }
     requires row { row * width + width ≤ length counts.now }
-    requires ints { (k : ℕ) → k < length counts.now → running_at width counts.now k < 2 ^ 31 }
+    requires ints { AreInts width counts.now (length counts.now) }
     requires so_far { take (4 * (row * width)) table.old ≡ entries_of width counts.now (row * width) }
     ensures { take (4 * (row * width + width)) table.new ≡ entries_of width counts.now (row * width + width) }
 {
@@ -34,7 +35,7 @@ fn put_row(counts: &[u32], width: usize, row: usize, table: &mut [u8])
 pub(crate) fn put_table(counts: &[u32], width: usize, rows: usize, table: &mut [u8])
     requires room { length table.old ≡ 4 * length counts.now }
     requires pixels { length counts.now ≡ rows * width }
-    requires ints { (k : ℕ) → k < length counts.now → running_at width counts.now k < 2 ^ 31 }
+    requires ints { are_ints width counts.now ≡ true }
     ensures { table.new ≡ table_of width counts.now }
 {
     for row in 0..rows {

@@ -5,7 +5,8 @@ ghost use Rattle.exr_base.specs.Refusal.{Gives};
 ghost use Rattle.exr_base.specs.Shape.{IsShape, width_of};
 ghost use Rattle.exr_deep.specs.Body.{content_of, body_of};
 ghost use Rattle.exr_deep.specs.Counts.{counts_in};
-ghost use Rattle.exr_deep.specs.Deep.{deep_of, fits, are_ints, pixels_of, samples_in};
+ghost use Rattle.exr_deep.specs.Deep.{deep_of, content_in, fits, are_ints, pixels_of, samples_in};
+ghost use Rattle.exr_deep.specs.Steps.{IsWhole};
 
 use crate::block::{DeepBlock, DeepPacked};
 use crate::counts::fill_counts;
@@ -42,10 +43,27 @@ pub fn unpack_deep(
 {
     let width = width_of(shape.region);
     let rows = height_of(shape.region);
+    unpack_rows(alloc, width, rows, sample_bytes(shape.channels), body)
+}
+
+/// The content of rows of so many pixels, where a sample of each channel takes `sample_bytes`.
+fn unpack_rows(
+    alloc: Global,
+    width: usize,
+    rows: usize,
+    sample_bytes: u64,
+    body: DeepPacked,
+) -> Result<DeepBlock, Refusal<DeepFault>>
+    requires few { rows ≤ 2 ^ 20 }
+    requires small { rows * width ≤ 2 ^ 24 }
+    requires bytes { sample_bytes ≤ 2 ^ 12 }
+    ensures exact { Gives content_of result (content_in width (rows * width) sample_bytes (body_of body)) }
+    ensures whole { IfOk result (λ block. IsWhole width (rows * width) sample_bytes body.unpacked (content_of block)) }
+{
     let table_size = 4 * (rows * width) as u64;
     let table = unpack_stored(alloc, body.table, table_size, DeepFault::TableBroken)?;
     let counted = count(alloc, &table, width, rows)?;
-    let computed = counted.samples * sample_bytes(shape.channels);
+    let computed = counted.samples * sample_bytes;
     let samples = unpack_samples(alloc, body.samples, body.unpacked, computed)?;
     Ok(DeepBlock {
         counts: counted.counts,
@@ -64,6 +82,7 @@ fn count(
     requires few { rows ≤ 2 ^ 20 }
     requires small { rows * width ≤ 2 ^ 24 }
     ensures exact { Gives (λ counted. counted.counts.items) result (counts_in width table.now (rows * width)) }
+    ensures size { IfOk result (λ counted. length counted.counts.items ≡ rows * width) }
     ensures ints { IfOk result (λ counted. are_ints width counted.counts.items ≡ true) }
     ensures samples { IfOk result (λ counted. counted.samples ≡ sum counted.counts.items) }
     ensures small { IfOk result (λ counted. counted.samples ≤ rows * 2 ^ 31) }

@@ -10,7 +10,7 @@ overflow_add-samples c =
     let l = c.loop-pixel in
     let is : IsInRow c.args.width (c.args.row * c.args.width) l.pixel = record { row = c.args.row; begins = refl; from = omega arith; below = omega arith } in
     let here = running_here c.args.width (c.args.row * c.args.width) l.pixel c.args.counts.now is (omega arith) in
-    let int = c.requires.ints l.pixel (omega arith) in
+    let int = c.requires.ints.each l.pixel (omega arith) in
     record { fits = omega arith }
 
 pub loop-pixel-preserved : goal.loop-pixel-preserved
