@@ -21,23 +21,6 @@ struct Chunk {
 
 const KINDS: &[Kind] = &[Kind::Half, Kind::Float];
 
-const fn chunk(
-    columns: u8,
-    lines: u8,
-    table: &'static [u8],
-    samples: &'static [u8],
-    unpacked: u64,
-) -> Chunk {
-    Chunk {
-        kinds: KINDS,
-        columns,
-        lines,
-        table,
-        samples,
-        unpacked,
-    }
-}
-
 // The chunk of a file of two pixels that have one and two samples, made by another program.
 const TWO_PIXELS: [u8; 8] = [1, 0, 0, 0, 3, 0, 0, 0];
 
@@ -67,60 +50,117 @@ const EIGHTY_TABLE: [u8; 13] = [
 
 /// Chunks, the counts of their pixels, and the byte of all their samples if it is one.
 const CONTENTS: [(Chunk, &[u32], Option<u8>); 10] = [
-    (chunk(2, 1, &TWO_PIXELS, &THREE_SAMPLES, 18), &[1, 2], None),
+    (
+        Chunk {
+            kinds: KINDS,
+            columns: 2,
+            lines: 1,
+            table: &TWO_PIXELS,
+            samples: &THREE_SAMPLES,
+            unpacked: 18,
+        },
+        &[1, 2],
+        None,
+    ),
     // Along a row, and from row to row.
     (
-        chunk(
-            4,
-            1,
-            &[0, 0, 0, 0, 3, 0, 0, 0, 3, 0, 0, 0, 4, 0, 0, 0],
-            &[7; 24],
-            24,
-        ),
+        Chunk {
+            kinds: KINDS,
+            columns: 4,
+            lines: 1,
+            table: &[0, 0, 0, 0, 3, 0, 0, 0, 3, 0, 0, 0, 4, 0, 0, 0],
+            samples: &[7; 24],
+            unpacked: 24,
+        },
         &[0, 3, 0, 1],
         Some(7),
     ),
     (
-        chunk(
-            2,
-            2,
-            &[0, 0, 0, 0, 3, 0, 0, 0, 0, 0, 0, 0, 1, 0, 0, 0],
-            &[7; 24],
-            24,
-        ),
+        Chunk {
+            kinds: KINDS,
+            columns: 2,
+            lines: 2,
+            table: &[0, 0, 0, 0, 3, 0, 0, 0, 0, 0, 0, 0, 1, 0, 0, 0],
+            samples: &[7; 24],
+            unpacked: 24,
+        },
         &[0, 3, 0, 1],
         Some(7),
     ),
     // One of the table and the samples is raw, or none.
     (
-        chunk(12, 1, &FOUR_TABLE, &FOUR_SAMPLES, 24),
+        Chunk {
+            kinds: KINDS,
+            columns: 12,
+            lines: 1,
+            table: &FOUR_TABLE,
+            samples: &FOUR_SAMPLES,
+            unpacked: 24,
+        },
         &[0, 0, 0, 0, 0, 0, 0, 0, 0, 2, 2, 0],
         None,
     ),
     (
-        chunk(12, 1, &EIGHT_TABLE, &[0xff, 0x0d, 0x2e, 0x80], 48),
+        Chunk {
+            kinds: KINDS,
+            columns: 12,
+            lines: 1,
+            table: &EIGHT_TABLE,
+            samples: &[0xff, 0x0d, 0x2e, 0x80],
+            unpacked: 48,
+        },
         &[0, 0, 0, 2, 0, 2, 0, 0, 2, 2, 0, 0],
         Some(0x0d),
     ),
     (
-        chunk(
-            12,
-            1,
-            &EIGHTY_TABLE,
-            &[0xff, 0x63, 0x7f, 0x80, 0x7f, 0x80, 0x7f, 0x80, 0x5e, 0x80],
-            480,
-        ),
+        Chunk {
+            kinds: KINDS,
+            columns: 12,
+            lines: 1,
+            table: &EIGHTY_TABLE,
+            samples: &[0xff, 0x63, 0x7f, 0x80, 0x7f, 0x80, 0x7f, 0x80, 0x5e, 0x80],
+            unpacked: 480,
+        },
         &[0, 0, 0, 0, 0, 0, 0, 0, 0, 40, 0, 40],
         Some(0x63),
     ),
     // No samples, no rows, no columns, no channels.
     (
-        chunk(12, 1, &[0xff, 0x00, 0x2e, 0x80], &[], 0),
+        Chunk {
+            kinds: KINDS,
+            columns: 12,
+            lines: 1,
+            table: &[0xff, 0x00, 0x2e, 0x80],
+            samples: &[],
+            unpacked: 0,
+        },
         &[0; 12],
         Some(0),
     ),
-    (chunk(3, 0, &[], &[], 0), &[], Some(0)),
-    (chunk(0, 3, &[], &[], 0), &[], Some(0)),
+    (
+        Chunk {
+            kinds: KINDS,
+            columns: 3,
+            lines: 0,
+            table: &[],
+            samples: &[],
+            unpacked: 0,
+        },
+        &[],
+        Some(0),
+    ),
+    (
+        Chunk {
+            kinds: KINDS,
+            columns: 0,
+            lines: 3,
+            table: &[],
+            samples: &[],
+            unpacked: 0,
+        },
+        &[],
+        Some(0),
+    ),
     (
         Chunk {
             kinds: &[],
@@ -135,68 +175,160 @@ const CONTENTS: [(Chunk, &[u32], Option<u8>); 10] = [
     ),
 ];
 
-use DeepFault::{DataBroken, TableBroken};
-
-const fn falls_at(pixel: u32) -> DeepFault {
-    DeepFault::CountsFall { pixel }
-}
-
-const fn differs(said: u64, computed: u64) -> DeepFault {
-    DeepFault::SizeDiffers { said, computed }
-}
+use DeepFault::{CountsFall, DataBroken, SizeDiffers, TableBroken};
 
 /// Chunks and their faults. The first fault is the answer where there are more.
 const FAULTS: [(Chunk, DeepFault); 13] = [
-    (chunk(2, 1, &[0], &THREE_SAMPLES, 18), TableBroken),
-    (chunk(2, 1, &[7, 0, 1], &[0], 17), TableBroken),
     (
-        chunk(
-            4,
-            1,
-            &[0, 0, 0, 0, 3, 0, 0, 0, 2, 0, 0, 0, 4, 0, 0, 0],
-            &[7; 24],
-            24,
-        ),
-        falls_at(2),
-    ),
-    (chunk(1, 1, &[0xff, 0xff, 0xff, 0xff], &[], 0), falls_at(0)),
-    (
-        chunk(2, 1, &[1, 0, 0, 0, 0, 0, 0, 0x80], &[0], 17),
-        falls_at(1),
+        Chunk {
+            kinds: KINDS,
+            columns: 2,
+            lines: 1,
+            table: &[0],
+            samples: &THREE_SAMPLES,
+            unpacked: 18,
+        },
+        TableBroken,
     ),
     (
-        chunk(
-            2,
-            2,
-            &[1, 0, 0, 0, 1, 0, 0, 0, 0xff, 0xff, 0xff, 0xff, 0, 0, 0, 0],
-            &[7; 6],
-            6,
-        ),
-        falls_at(2),
+        Chunk {
+            kinds: KINDS,
+            columns: 2,
+            lines: 1,
+            table: &[7, 0, 1],
+            samples: &[0],
+            unpacked: 17,
+        },
+        TableBroken,
     ),
     (
-        chunk(
-            2,
-            2,
-            &[1, 0, 0, 0, 1, 0, 0, 0, 2, 0, 0, 0, 1, 0, 0, 0],
-            &[7; 6],
-            6,
-        ),
-        falls_at(3),
-    ),
-    (chunk(2, 1, &TWO_PIXELS, &[0], 17), differs(17, 18)),
-    (
-        chunk(2, 1, &TWO_PIXELS, &THREE_SAMPLES, 1 << 63),
-        differs(1 << 63, 18),
+        Chunk {
+            kinds: KINDS,
+            columns: 4,
+            lines: 1,
+            table: &[0, 0, 0, 0, 3, 0, 0, 0, 2, 0, 0, 0, 4, 0, 0, 0],
+            samples: &[7; 24],
+            unpacked: 24,
+        },
+        CountsFall { pixel: 2 },
     ),
     (
-        chunk(1, 1, &[0xff, 0xff, 0xff, 0x7f], &[], 0),
-        differs(0, 12_884_901_882),
+        Chunk {
+            kinds: KINDS,
+            columns: 1,
+            lines: 1,
+            table: &[0xff, 0xff, 0xff, 0xff],
+            samples: &[],
+            unpacked: 0,
+        },
+        CountsFall { pixel: 0 },
     ),
-    (chunk(2, 1, &TWO_PIXELS, &[0x11, 0], 17 + 1), DataBroken),
-    (chunk(2, 1, &TWO_PIXELS, &[], 18), DataBroken),
     (
-        chunk(1, 1, &[0xff, 0xff, 0xff, 0x7f], &[0x7f, 0], 12_884_901_882),
+        Chunk {
+            kinds: KINDS,
+            columns: 2,
+            lines: 1,
+            table: &[1, 0, 0, 0, 0, 0, 0, 0x80],
+            samples: &[0],
+            unpacked: 17,
+        },
+        CountsFall { pixel: 1 },
+    ),
+    (
+        Chunk {
+            kinds: KINDS,
+            columns: 2,
+            lines: 2,
+            table: &[1, 0, 0, 0, 1, 0, 0, 0, 0xff, 0xff, 0xff, 0xff, 0, 0, 0, 0],
+            samples: &[7; 6],
+            unpacked: 6,
+        },
+        CountsFall { pixel: 2 },
+    ),
+    (
+        Chunk {
+            kinds: KINDS,
+            columns: 2,
+            lines: 2,
+            table: &[1, 0, 0, 0, 1, 0, 0, 0, 2, 0, 0, 0, 1, 0, 0, 0],
+            samples: &[7; 6],
+            unpacked: 6,
+        },
+        CountsFall { pixel: 3 },
+    ),
+    (
+        Chunk {
+            kinds: KINDS,
+            columns: 2,
+            lines: 1,
+            table: &TWO_PIXELS,
+            samples: &[0],
+            unpacked: 17,
+        },
+        SizeDiffers {
+            said: 17,
+            computed: 18,
+        },
+    ),
+    (
+        Chunk {
+            kinds: KINDS,
+            columns: 2,
+            lines: 1,
+            table: &TWO_PIXELS,
+            samples: &THREE_SAMPLES,
+            unpacked: 1 << 63,
+        },
+        SizeDiffers {
+            said: 1 << 63,
+            computed: 18,
+        },
+    ),
+    (
+        Chunk {
+            kinds: KINDS,
+            columns: 1,
+            lines: 1,
+            table: &[0xff, 0xff, 0xff, 0x7f],
+            samples: &[],
+            unpacked: 0,
+        },
+        SizeDiffers {
+            said: 0,
+            computed: 12_884_901_882,
+        },
+    ),
+    (
+        Chunk {
+            kinds: KINDS,
+            columns: 2,
+            lines: 1,
+            table: &TWO_PIXELS,
+            samples: &[0x10, 0],
+            unpacked: 18,
+        },
+        DataBroken,
+    ),
+    (
+        Chunk {
+            kinds: KINDS,
+            columns: 2,
+            lines: 1,
+            table: &TWO_PIXELS,
+            samples: &[],
+            unpacked: 18,
+        },
+        DataBroken,
+    ),
+    (
+        Chunk {
+            kinds: KINDS,
+            columns: 1,
+            lines: 1,
+            table: &[0xff, 0xff, 0xff, 0x7f],
+            samples: &[0x7f, 0],
+            unpacked: 12_884_901_882,
+        },
         DataBroken,
     ),
 ];
