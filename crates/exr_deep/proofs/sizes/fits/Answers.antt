@@ -1,4 +1,4 @@
-use Rattle.std.proofs.Common.{◌≡◌, ℕ, ◌*◌, true, false, length, sym, ap, ap₂, ◌∙◌, arith}
+use Rattle.std.proofs.Common.{◌≡◌, ℕ, ◌*◌, true, false, length, vec_len, sym, ap, ap₂, ◌∙◌, arith}
 use Rattle.std.specs.List.{sum}
 use Rattle.exr_base.specs.Shape.{width_of}
 use Rattle.exr_deep.specs.Body.{content_of}
@@ -30,6 +30,7 @@ returns-in-Some c =
     let are : are_ints (width_of region) counts ≡ true = ap (λ w. are_ints w counts) (sym c.width_of-width.ensures.exact) ∙ ap (are_ints c.width_of-width.result) (sym c.deref.ensures.value) ∙ c.in-Some.ensures.ints in
     let size : c.in-Some.samples * c.sample_bytes.result ≡ samples_size_of c.args.shape.now.channels.now counts =
         ap₂ ◌*◌ (c.in-Some.ensures.samples ∙ ap sum c.deref.ensures.value) c.sample_bytes.ensures.exact in
+    let said : vec_len c.args.block.now.samples ≡ length c.args.block.now.samples.items = omega (arith, c.args.block.now.samples.ok.0) in
     c.are_sizes.ensures
-    ∙ same_sizes pixels c.len-in-Some.ensures size
+    ∙ same_sizes pixels (c.len-in-Some.ensures ∙ said) size
     ∙ sym (fits_by_sizes c.args.shape.now.channels.now region (content_of c.args.block.now) long are)
