@@ -1,5 +1,5 @@
 -- The table of counts is read again, and the counts of a table have running sums that are ints.
-use Rattle.std.proofs.Common.{◌≡◌, ℕ, ℤ, zero, suc, pos, nat_abs, int_lt, ◌-ℤ◌, ◌≤ℤ◌, ◌+◌, ◌-◌, ◌*◌, ◌/◌, ◌^◌, ◌<◌, ◌≤◌, Bool, true, false, cond, eqb, List, [], ◌∷◌, ◌++◌, length, get_or, take, drop, map, Option, Some, None, Result, Ok, inl, inr, zero-add, refl, sym, ap, ap₂, subst, ◌∙◌, w32, arith}
+use Rattle.std.proofs.Common.{◌≡◌, ℕ, ℤ, zero, suc, pos, nat_abs, int_lt, ◌-ℤ◌, ◌≤ℤ◌, ◌+◌, ◌-◌, ◌*◌, ◌/◌, ◌^◌, ◌<◌, ◌≤◌, true, false, eqb, List, [], ◌∷◌, length, get_or, take, drop, map, Ok, inl, inr, zero-add, refl, sym, ap, ap₂, ◌∙◌, w32, arith}
 use Rattle.std.specs.List.{range_with_len, flat_map}
 use Rattle.std.specs.Int.{to_le_bytes, from_le_bytes, cast_signed}
 use Rattle.std.proofs.lemmas.Bool.{cases_eq, eq-eqb, ne_eqb}
@@ -8,10 +8,8 @@ use Rattle.std.proofs.lemmas.Nat.{from_le_bytes-to_le_bytes_4}
 use Rattle.std.proofs.lemmas.List.{take_at, drop_at, drop-drop}
 use Rattle.std.proofs.lemmas.List.Concat.{flat_map-cons}
 use Rattle.std.proofs.lemmas.List.FromFn.{length-map-range_with_len, get_or-map-range_with_len}
-use Rattle.exr_deep.specs.declared.fault.DeepFault.{DeepFault}
 use Rattle.exr_deep.specs.Counts.{entry_at, entry_before, falls_at, count_at, counts_in, running_at, table_of}
 use Rattle.exr_deep.specs.Steps.{AreCounted, AreInts, entry_before_in, running_before_in}
-use Rattle.exr_deep.proofs.Rows.{IsInRow}
 use Rattle.exr_deep.proofs.Reading.{entry_before_is, not_below_is, no_fall, all_counted, counted_in}
 use Rattle.exr_deep.proofs.Running.{running_here, row_at}
 
@@ -57,10 +55,13 @@ counted_again width rows counts long are = record {
   where
     first : ℕ → ℕ
     first k = k / width * width
+
     sum_before : ℕ → ℕ
     sum_before k = running_before_in width (first k) counts k
+
     entry : (k : ℕ) → k < rows * width → entry_at (table_of width counts) k ≡ pos (sum_before k + get_or counts k 0)
     entry k lt = entry_again width counts k (omega arith) (are.each k (omega arith)) ∙ ap pos (running_here width (first k) k counts (row_at width rows k lt) (omega arith))
+
     before : (k : ℕ) → k < rows * width → entry_before width (table_of width counts) k ≡ pos (sum_before k)
     before k lt = entry_before_is width (first k) k (table_of width counts) (row_at width rows k lt) ∙ before_again width (first k) k counts (omega arith) are (let is = row_at width rows k lt in is.from)
 

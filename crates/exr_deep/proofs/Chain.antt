@@ -15,7 +15,7 @@ use Rattle.exr_deep.specs.declared.block.DeepBlock.{DeepBlock}
 use Rattle.exr_deep.specs.declared.block.DeepPacked.{DeepPacked}
 use Rattle.exr_deep.specs.Body.{DeepContent, DeepBody, content_of, body_of}
 use Rattle.exr_deep.specs.Counts.{counts_in, table_of}
-use Rattle.exr_deep.specs.Deep.{or_broken, samples_in, content_in, deep_of, body_for, fits, are_ints, pixels_of, sample_bytes_of, samples_size_of}
+use Rattle.exr_deep.specs.Deep.{or_broken, samples_in, content_in, body_for, fits, are_ints, pixels_of, sample_bytes_of, samples_size_of}
 use Rattle.exr_deep.specs.Steps.{IsWhole}
 use Rattle.exr_deep.specs.Stored.{unpacked_of}
 use Rattle.exr_deep.proofs.Fitting.{fits_by_sizes}

@@ -1,8 +1,8 @@
 -- Counts from a table, pixel by pixel.
-use Rattle.std.proofs.Common.{◌≡◌, ℕ, ℤ, pos, nat_abs, int_lt, ◌-ℤ◌, ◌≤ℤ◌, ◌<ℤ◌, ◌+◌, ◌-◌, ◌*◌, ◌<◌, ◌≤◌, Bool, true, false, cond, eqb, ltb, List, length, get_or, set, take, map, Option, Some, None, Ok, Err, inl, inr, zero-add, refl, sym, ap, ap₂, subst, ◌∙◌, arith}
-use Rattle.std.specs.List.{range_with_len, position, position_or_len, sum}
+use Rattle.std.proofs.Common.{◌≡◌, ℕ, ℤ, pos, nat_abs, int_lt, ◌-ℤ◌, ◌≤ℤ◌, ◌<ℤ◌, ◌+◌, ◌-◌, ◌<◌, ◌≤◌, Bool, true, false, cond, eqb, ltb, List, length, get_or, set, take, Some, None, Ok, Err, inl, inr, zero-add, sym, ap, ap₂, subst, ◌∙◌, arith}
+use Rattle.std.specs.List.{range_with_len, position_or_len, sum}
 use Rattle.std.proofs.lemmas.Bool.{cases_lt, ne_eqb, lt-ltb, le-ltb}
-use Rattle.std.proofs.lemmas.List.{take_more_set, take_all, get_or-set_same, get_or-set_other}
+use Rattle.std.proofs.lemmas.List.{take_more_set, get_or-set_same, get_or-set_other}
 use Rattle.std.proofs.lemmas.List.Sums.{sum_by_push}
 use Rattle.std.proofs.lemmas.Int.{ints}
 use Rattle.std.proofs.lemmas.List.Sums.{position_or_len_is}
@@ -70,7 +70,7 @@ no_fall width pixels table counts are =
     let range = range_with_len 0 pixels in
     let long : length range ≡ pixels = length-range_with_len 0 pixels in
     let last : position_or_len (falls_at width table) range ≡ pixels =
-        position_or_len_is (falls_at width table) range pixels 0 (omega arith) (λ k lt. at_place width table pixels k false lt (are.rise k lt)) (λ lt. absurd (omega arith)) in
+    position_or_len_is (falls_at width table) range pixels 0 (omega arith) (λ k lt. at_place width table pixels k false lt (are.rise k lt)) (λ lt. absurd (omega arith)) in
     let test : ltb (position_or_len (falls_at width table) range) (length range) ≡ false = le-ltb (position_or_len (falls_at width table) range) (length range) (omega arith) in
     ap (λ b. cond b (Some (position_or_len (falls_at width table) range)) None) test
 
@@ -80,7 +80,7 @@ fall_found width pixels pixel table inside is =
     let range = range_with_len 0 pixels in
     let long : length range ≡ pixels = length-range_with_len 0 pixels in
     let first : position_or_len (falls_at width table) range ≡ pixel =
-        position_or_len_is (falls_at width table) range pixel 0 (omega arith) (λ k lt. at_place width table pixels k false (omega arith) (is.rise k lt)) (λ lt. at_place width table pixels pixel true inside is.falls) in
+    position_or_len_is (falls_at width table) range pixel 0 (omega arith) (λ k lt. at_place width table pixels k false (omega arith) (is.rise k lt)) (λ lt. at_place width table pixels pixel true inside is.falls) in
     let test : ltb (position_or_len (falls_at width table) range) (length range) ≡ true = lt-ltb (position_or_len (falls_at width table) range) (length range) (omega arith) in
     ap (λ b. cond b (Some (position_or_len (falls_at width table) range)) None) test ∙ ap Some first
 

@@ -1,7 +1,7 @@
 -- The content of a deep chunk: the count of each pixel, and the samples row by row, in each row channel by channel, of
 -- each channel the samples of the row's pixels from left to right.
 -- File Layout, "Deep Data Blocks".
-use Rattle.std.specs.Prelude.{ℕ, ◌+◌, ◌*◌, ◌^◌, ◌==◌, ◌&&◌, nat_lt, nat_le, Bool, List, length, sum, sum_by, Result, Ok, Err, if◌then◌else◌}
+use Rattle.std.specs.Prelude.{ℕ, ◌*◌, ◌^◌, ◌==◌, ◌&&◌, nat_lt, nat_le, Bool, List, length, sum, sum_by, Result, Ok, Err, if◌then◌else◌}
 use Rattle.std.specs.List.{range_with_len, list_all}
 use Rattle.exr_base.specs.declared.shape.Box2i.{Box2i}
 use Rattle.exr_base.specs.declared.channel.Channel.{Channel}

@@ -59,12 +59,7 @@ fn pack_rows(
 }
 
 /// The sample count table of counts.
-fn table_of(
-    alloc: Global,
-    counts: &[u32],
-    width: usize,
-    rows: usize,
-) -> Result<Vec<u8>, NoMemory>
+fn table_of(alloc: Global, counts: &[u32], width: usize, rows: usize) -> Result<Vec<u8>, NoMemory>
     requires pixels { length counts.now ≡ rows * width }
     requires small { rows * width ≤ 2 ^ 24 }
     requires ints { are_ints width counts.now ≡ true }

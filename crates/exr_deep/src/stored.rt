@@ -56,11 +56,7 @@ pub(crate) fn store_copy(alloc: Global, method: Method, raw: &[u8]) -> Result<Ve
 
 /// The data that is stored for raw data under a method, where it is not the raw data.
 #[tactic(auto, unfolding(crate::specs::Stored::unpacked_of, crate::specs::Stored::stored_of))]
-fn pack_smaller(
-    alloc: Global,
-    method: Method,
-    raw: &[u8],
-) -> Result<Option<Vec<u8>>, NoMemory>
+fn pack_smaller(alloc: Global, method: Method, raw: &[u8]) -> Result<Option<Vec<u8>>, NoMemory>
     ensures exact { IfOk result (λ smaller. MatchOption smaller (stored_of method raw.now ≡ raw.now) (λ packed. stored_of method raw.now ≡ packed.items)) }
     ensures restores { IfOk result (λ smaller. unpacked_of (length raw.now) (stored_of method raw.now) ≡ Ok raw.now) }
 {

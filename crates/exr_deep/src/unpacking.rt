@@ -24,7 +24,8 @@ struct Counted {
 }
 
 /// The content of a deep chunk, for the channels and the region of a shape. The table and the samples are each raw where
-/// they have their raw size, and not copied; otherwise they are run lengths.
+/// they have their raw size, and not copied; otherwise they are run lengths. The region has at most 2^24 pixels, so that the
+/// raw table has at most 2^26 bytes.
 ///
 /// The first fault comes that there is, in the order of `DeepFault`. No memory is taken for samples whose size is not the
 /// one that the table counts, or that their run lengths do not give; any size may be said.

@@ -11,8 +11,8 @@ pub returns-in_err-fill_row-clause-exact : goal.returns-in_err-fill_row-clause-e
 returns-in_err-fill_row-clause-exact c =
     let pixels = c.args.rows * c.args.width in
     let found : counts_in c.args.width c.args.table.now pixels ≡ Err (fault.CountsFall c.in_err-fill_row.field-0.0) =
-        fall_in c.args.width c.args.table.now pixels c.in_err-fill_row.field-0.0
-        (fall_found c.args.width pixels c.in_err-fill_row.field-0.0 c.args.table.now (omega (arith, c.requires.pixels, c.in_err-fill_row.ensures.small)) c.in_err-fill_row.ensures.counted) in
+    fall_in c.args.width c.args.table.now pixels c.in_err-fill_row.field-0.0
+    (fall_found c.args.width pixels c.in_err-fill_row.field-0.0 c.args.table.now (omega (arith, c.requires.pixels, c.in_err-fill_row.ensures.small)) c.in_err-fill_row.ensures.counted) in
     search (rules, found)
 
 pub returns-clause-exact : goal.returns-clause-exact

@@ -1,4 +1,4 @@
-use Rattle.std.proofs.Common.{◌≡◌, ℕ, ℤ, ◌+◌, ◌*◌, ◌<◌, take, pos, nat_abs, ◌-ℤ◌, ◌≤ℤ◌, w32, to_z, of_z, refl, sym, ap, ◌∙◌, rules, arith}
+use Rattle.std.proofs.Common.{◌≡◌, ℤ, ◌+◌, ◌*◌, take, pos, nat_abs, ◌-ℤ◌, ◌≤ℤ◌, w32, to_z, of_z, refl, sym, ap, ◌∙◌, rules, arith}
 use Rattle.std.specs.List.{sum}
 use mir.Val.{SFits}
 use Rattle.std.proofs.lemmas.Int.{ints, to_z-of_z}

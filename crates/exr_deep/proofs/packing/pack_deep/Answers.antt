@@ -1,4 +1,4 @@
-use Rattle.std.proofs.Common.{◌≡◌, ℕ, ◌*◌, length, true, Ok, IfOk, sym, subst, ap, ap₂, ◌∙◌, arith}
+use Rattle.std.proofs.Common.{◌≡◌, ℕ, ◌*◌, length, Ok, IfOk, sym, subst, ap, ap₂, ◌∙◌, arith}
 use Rattle.exr_base.specs.Shape.{width_of}
 use Rattle.exr_deep.specs.Body.{content_of, body_of}
 use Rattle.exr_deep.specs.Deep.{content_in, body_for, are_ints, pixels_of, sample_bytes_of}
@@ -36,8 +36,8 @@ returns-clause-restores c =
     let is = fits_whole channels region content c.requires.fits in
     let pixels : c.height_of-rows.result * c.width_of-width.result ≡ pixels_of region = ap₂ ◌*◌ height width in
     let whole : IsWhole c.width_of-width.result (c.height_of-rows.result * c.width_of-width.result) (sample_bytes_of channels) (length content.samples) content =
-        subst (λ (w : ℕ). IsWhole w (c.height_of-rows.result * c.width_of-width.result) (sample_bytes_of channels) (length content.samples) content) (sym width)
-        (subst (λ (p : ℕ). IsWhole (width_of region) p (sample_bytes_of channels) (length content.samples) content) (sym pixels) is.whole) in
+    subst (λ (w : ℕ). IsWhole w (c.height_of-rows.result * c.width_of-width.result) (sample_bytes_of channels) (length content.samples) content) (sym width)
+    (subst (λ (p : ℕ). IsWhole (width_of region) p (sample_bytes_of channels) (length content.samples) content) (sym pixels) is.whole) in
     subst (λ (w : ℕ). IfOk c.pack_rows.result (λ body. content_in w (pixels_of region) (sample_bytes_of channels) (body_of body) ≡ Ok content)) width
     (subst (λ (p : ℕ). IfOk c.pack_rows.result (λ body. content_in c.width_of-width.result p (sample_bytes_of channels) (body_of body) ≡ Ok content)) pixels
     (content_again c.args.method c.width_of-width.result c.height_of-rows.result (sample_bytes_of channels) content c.pack_rows.result whole c.pack_rows.ensures.exact c.pack_rows.ensures.table c.pack_rows.ensures.samples))

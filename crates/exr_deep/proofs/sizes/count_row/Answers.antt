@@ -1,4 +1,4 @@
-use Rattle.std.proofs.Common.{◌≡◌, ℕ, ◌+◌, ◌*◌, ◌<◌, ◌^◌, get_or, take, refl, ap, ◌∙◌, sym, arith}
+use Rattle.std.proofs.Common.{◌≡◌, ◌+◌, ◌*◌, take, refl, ◌∙◌, arith}
 use Rattle.std.specs.List.{sum}
 use Rattle.exr_deep.specs.Counts.{running_at}
 use Rattle.exr_deep.proofs.Rows.{IsInRow}

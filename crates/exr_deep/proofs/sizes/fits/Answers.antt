@@ -1,8 +1,8 @@
-use Rattle.std.proofs.Common.{◌≡◌, ℕ, ◌*◌, true, false, length, vec_len, sym, ap, ap₂, ◌∙◌, arith}
+use Rattle.std.proofs.Common.{◌≡◌, ◌*◌, true, false, length, vec_len, sym, ap, ap₂, ◌∙◌, arith}
 use Rattle.std.specs.List.{sum}
 use Rattle.exr_base.specs.Shape.{width_of}
 use Rattle.exr_deep.specs.Body.{content_of}
-use Rattle.exr_deep.specs.Deep.{are_ints, pixels_of, samples_size_of, sample_bytes_of}
+use Rattle.exr_deep.specs.Deep.{are_ints, pixels_of, samples_size_of}
 use Rattle.exr_deep.proofs.Fitting.{not_counts, not_ints_fit, fits_by_sizes, same_sizes}
 use Rattle.exr_deep.proofs.sizes.fits.Goals as goal
 
@@ -29,7 +29,7 @@ returns-in-Some c =
     let long : length counts ≡ pixels_of region = omega arith in
     let are : are_ints (width_of region) counts ≡ true = ap (λ w. are_ints w counts) (sym c.width_of-width.ensures.exact) ∙ ap (are_ints c.width_of-width.result) (sym c.deref.ensures.value) ∙ c.in-Some.ensures.ints in
     let size : c.in-Some.samples * c.sample_bytes.result ≡ samples_size_of c.args.shape.now.channels.now counts =
-        ap₂ ◌*◌ (c.in-Some.ensures.samples ∙ ap sum c.deref.ensures.value) c.sample_bytes.ensures.exact in
+    ap₂ ◌*◌ (c.in-Some.ensures.samples ∙ ap sum c.deref.ensures.value) c.sample_bytes.ensures.exact in
     let said : vec_len c.args.block.now.samples ≡ length c.args.block.now.samples.items = omega (arith, c.args.block.now.samples.ok.0) in
     c.are_sizes.ensures
     ∙ same_sizes pixels (c.len-in-Some.ensures ∙ said) size

@@ -20,7 +20,7 @@ loop-pixel-preserved c =
     let counts = c.args.counts.now in
     let is : IsInRow c.args.width first l.pixel = record { row = c.args.row; begins = refl; from = omega arith; below = omega arith } in
     let here : l.samples + get_or counts l.pixel 0 ≡ running_at c.args.width counts l.pixel =
-        ap (λ k. k + get_or counts l.pixel 0) l.invariant.samples ∙ sym (running_here c.args.width first l.pixel counts is (omega arith)) in
+    ap (λ k. k + get_or counts l.pixel 0) l.invariant.samples ∙ sym (running_here c.args.width first l.pixel counts is (omega arith)) in
     record {
       written = entry_put c.args.width counts l.table c.put_entry.new.table l.pixel (l.samples + get_or counts l.pixel 0) l.invariant.written c.put_entry.ensures here;
       samples = here ∙ running_next c.args.width first l.pixel counts (omega arith);

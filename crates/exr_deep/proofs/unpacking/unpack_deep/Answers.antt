@@ -17,8 +17,8 @@ returns-clause-exact c =
     let height = c.height_of-rows.ensures.exact in
     let bytes = c.sample_bytes.ensures.exact in
     let same : content_in c.width_of-width.result (c.height_of-rows.result * c.width_of-width.result) c.sample_bytes.result (body_of c.args.body)
-            ≡ content_in (width_of c.args.shape.now.region) (pixels_of c.args.shape.now.region) (sample_bytes_of c.args.shape.now.channels.now) (body_of c.args.body)
-        = (λ i. content_in (width i) (height i * width i) (bytes i) (body_of c.args.body)) in
+    ≡ content_in (width_of c.args.shape.now.region) (pixels_of c.args.shape.now.region) (sample_bytes_of c.args.shape.now.channels.now) (body_of c.args.body)
+    = (λ i. content_in (width i) (height i * width i) (bytes i) (body_of c.args.body)) in
     subst (Gives content_of c.unpack_rows.result) same c.unpack_rows.ensures.exact
 
 pub returns-clause-fits : goal.returns-clause-fits

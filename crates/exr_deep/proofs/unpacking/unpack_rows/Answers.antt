@@ -1,4 +1,4 @@
-use Rattle.std.proofs.Common.{◌≡◌, ℕ, ◌*◌, List, sum, Ok, ap, subst, ◌∙◌, rules, arith}
+use Rattle.std.proofs.Common.{◌≡◌, ℕ, ◌*◌, List, Ok, ap, subst, ◌∙◌, rules}
 use Rattle.exr_base.specs.Refusal.{Refuses}
 use Rattle.exr_deep.specs.Body.{body_of}
 use Rattle.exr_deep.specs.Counts.{counts_in}
@@ -11,7 +11,7 @@ returns-in_err-table-clause-exact c =
     let pixels = c.args.rows * c.args.width in
     let e = c.in_err-table.field-0.0 in
     let refused : Refuses e (content_in c.args.width pixels c.args.sample_bytes (body_of c.args.body)) =
-        table_refused e c.args.width pixels c.args.sample_bytes (body_of c.args.body) c.in_err-table.ensures.exact in
+    table_refused e c.args.width pixels c.args.sample_bytes (body_of c.args.body) c.in_err-table.ensures.exact in
     search (rules, refused)
 
 pub returns-in_err-counted-clause-exact : goal.returns-in_err-counted-clause-exact
@@ -21,7 +21,7 @@ returns-in_err-counted-clause-exact c =
     let table = c.in_ok-table.table.items in
     let counts : Refuses e (counts_in c.args.width table pixels) = subst (λ (t : List ℕ). Refuses e (counts_in c.args.width t pixels)) c.deref.ensures.value c.in_err-counted.ensures.exact in
     let refused : Refuses e (content_in c.args.width pixels c.args.sample_bytes (body_of c.args.body)) =
-        counts_refused e c.args.width pixels c.args.sample_bytes (body_of c.args.body) table c.in_ok-table.ensures.exact counts in
+    counts_refused e c.args.width pixels c.args.sample_bytes (body_of c.args.body) table c.in_ok-table.ensures.exact counts in
     search (rules, refused)
 
 pub returns-in_err-samples-clause-exact : goal.returns-in_err-samples-clause-exact
@@ -32,8 +32,8 @@ returns-in_err-samples-clause-exact c =
     let counted = c.in_ok-counted.counted in
     let counts : counts_in c.args.width table pixels ≡ Ok counted.counts.items = subst (λ (t : List ℕ). counts_in c.args.width t pixels ≡ Ok counted.counts.items) c.deref.ensures.value c.in_ok-counted.ensures.exact in
     let refused : Refuses e (content_in c.args.width pixels c.args.sample_bytes (body_of c.args.body)) =
-        samples_refused e c.args.width pixels c.args.sample_bytes (counted.samples * c.args.sample_bytes) (body_of c.args.body) table counted.counts.items c.in_ok-table.ensures.exact counts
-        (ap (λ n. n * c.args.sample_bytes) c.in_ok-counted.ensures.samples) c.in_err-samples.ensures.exact in
+    samples_refused e c.args.width pixels c.args.sample_bytes (counted.samples * c.args.sample_bytes) (body_of c.args.body) table counted.counts.items c.in_ok-table.ensures.exact counts
+    (ap (λ n. n * c.args.sample_bytes) c.in_ok-counted.ensures.samples) c.in_err-samples.ensures.exact in
     search (rules, refused)
 
 pub returns-clause-exact : goal.returns-clause-exact
