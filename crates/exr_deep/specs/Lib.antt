@@ -1,0 +1,5 @@
+pub mod Body
+pub mod Counts
+pub mod Deep
+pub mod Stored
+pub mod Steps
