@@ -64,7 +64,10 @@ pub fn asked_of(alloc: Global, request: &Request) -> Result<Asked, Fail>
 {
     let channels = channels_of(alloc, request.channels)?;
     let window = match request.window {
-        Some([x0, y0, x1, y1]) => Some(Box2i { x0, y0, x1, y1 }),
+        Some(sides) => {
+            let [x0, y0, x1, y1] = sides;
+            Some(Box2i { x0, y0, x1, y1 })
+        }
         None => None,
     };
     Ok(Asked {

@@ -183,6 +183,11 @@ const WHOLE: Case = Case {
 /// The eighteenth line says that it is another one.
 const MISPLACED: Case = Case {
     flaw: Flaw::Misplaced(17),
+    stop: Some(ReadStop {
+        cause: WRONG_PLACE,
+        rounds: 1,
+    }),
+    put: 16,
     seen: 18,
     ..WHOLE
 };
@@ -244,14 +249,7 @@ const CASES: [Case; 22] = [
         ..THREE
     },
     // a round is judged whole before any of it is put
-    Case {
-        stop: Some(ReadStop {
-            cause: WRONG_PLACE,
-            rounds: 1,
-        }),
-        put: 16,
-        ..MISPLACED
-    },
+    MISPLACED,
     Case {
         round: 1,
         stop: Some(ReadStop {
@@ -354,11 +352,6 @@ const CASES: [Case; 22] = [
     },
     Case {
         failing: 18,
-        stop: Some(ReadStop {
-            cause: WRONG_PLACE,
-            rounds: 1,
-        }),
-        put: 16,
         ..MISPLACED
     },
     Case {
