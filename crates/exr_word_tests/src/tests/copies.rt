@@ -8,6 +8,7 @@ use exr_outside::{
 };
 use std::alloc::Global;
 use std::marker::Brand;
+use std::process::Abort;
 use std::test::Fail;
 
 /// All bytes of a file, which is opened and given back.
@@ -121,14 +122,14 @@ struct Outcome {
 fn copied<W: World>(
     alloc: Global,
     files: Vec<(String, Vec<u8>)>,
-    from: &str,
+    from: String,
     room: usize,
     fails: Fails,
 ) -> Result<Outcome, Fail>
     requires { AreOf W.bytes_of (named_files files.items) }
 {
     let mut files = MemFiles::<W>::new(alloc, files, room, fails)?;
-    let answer = copy::<W, _>(alloc, &mut files, from, "out");
+    let answer = copy::<W, _>(alloc, &mut files, from.as_str(), "out");
     let kept = match files.kept("out") {
         Some(bytes) => Some(bytes.to_vec(alloc)?),
         None => None,
@@ -142,19 +143,25 @@ fn copied<W: World>(
 }
 
 /// Copies one of two files in memory.
-fn outcome_of(alloc: Global, from: &str, room: usize, named: Named) -> Result<Outcome, Fail> {
-    let files = files_of(alloc, &[("in", "bytes"), ("empty", "")])?;
+fn outcome_of(
+    rt: &impl Abort,
+    alloc: Global,
+    from: &str,
+    room: usize,
+    named: Named,
+) -> Result<Outcome, Fail> {
     let fails = fails_of(alloc, named)?;
-    if !are_of_one_world(&files) {
-        return Err(Fail::from("two files of one name"));
-    }
-    copied::<Brand>(alloc, files, from, room, fails)
+    let mut files = Vec::new(alloc);
+    files.push((String::from_str(alloc, "in")?, b"bytes".to_vec(alloc)?))?;
+    files.push((String::from_str(alloc, "empty")?, Vec::new(alloc)))?;
+    assert!(rt; are_of_one_world(&files));
+    copied::<Brand>(alloc, files, String::from_str(alloc, from)?, room, fails)
 }
 
 #[test]
 fn copies_in_memory(rt: HostRuntime) -> Result<(), Fail> {
     for (from, room, named, read_faults, write_faults, kept) in CASES {
-        let outcome = outcome_of(rt.alloc(), from, *room, *named)?;
+        let outcome = outcome_of(&rt, rt.alloc(), from, *room, *named)?;
         let faults = (outcome.read_faults, outcome.write_faults);
         assert_eq!(rt; faults, (*read_faults, *write_faults));
         assert_eq!(rt; outcome.done, faults == (0, 0));
