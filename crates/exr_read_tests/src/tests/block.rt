@@ -376,6 +376,7 @@ const PACKED: &[Packed] = &[
     ((HALF, PIZ, PAIR), RAW, Some((RAW, RAW))),
     ((NONE, PIZ, PIXEL), b"", Some((b"", b""))),
     ((HALF, B44, PAIR), RAW, Some((RAW, RAW))),
+    ((HALF, B44, PIXEL), b"\0\x7c", Some((b"\0\x7c", b"\0\x7c"))),
     ((HALF, B44A, PIXEL), b"\0\0", Some((b"\0\0", b"\0\0"))),
     ((FLOAT, B44, PIXEL), RAW, Some((RAW, RAW))),
     (
