@@ -405,6 +405,9 @@ fn stored(
     {
         return Err("not raw without compression".into());
     }
+    if chunk.table.len() == raw.table.len() && chunk.table != raw.table.as_slice() {
+        return Err("another table".into());
+    }
     let runs = pack_deep(alloc, Method::Rle, shape, &block)?;
     if runs.table.len() > chunk.table.len() || runs.samples.len() > chunk.samples.len() {
         return Err("not the smaller data".into());
