@@ -1,3 +1,4 @@
+pub mod Even
 pub mod Grid
 pub mod Joined
 pub mod Moves

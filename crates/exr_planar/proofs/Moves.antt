@@ -1,5 +1,5 @@
 -- Rows that are written one after the other, each at its place.
-use Rattle.std.proofs.Common.{◌≡◌, ◌≢◌, ◌+◌, ◌<◌, ◌≤◌, ℕ, suc, ℤ, pos, ◌+ℤ◌, List, ◌++◌, length, take, drop, get_or, refl, sym, ap, ap₂, ◌∙◌, subst, inl, inr, ◌⊎◌, arith}
+use Rattle.std.proofs.Common.{◌≡◌, ◌≢◌, ◌+◌, ◌%◌, ◌<◌, ◌≤◌, ℕ, suc, ℤ, pos, ◌+ℤ◌, List, ◌++◌, length, take, drop, get_or, refl, sym, ap, ap₂, ◌∙◌, subst, inl, inr, ◌⊎◌, arith}
 use Rattle.std.specs.List.{sum_by}
 use Rattle.std.proofs.lemmas.List.{length-append, length-take, length-drop, length-take-le, drop-take, take_all, get_or_default}
 use Rattle.std.proofs.lemmas.List.Sums.{sum_by_more, sum_by_more_le}
@@ -14,6 +14,7 @@ use Rattle.exr_base.specs.Shape.{height_of, row_bytes_of, lines_bytes_of, raw_si
 use Rattle.exr_planar.specs.declared.rows.Rows.{Rows}
 use Rattle.exr_planar.specs.Planar.{joined, row_of, plane_of, planar_of, above_bytes_of, plane_place_of, planar_row_of, line_from_planar, raw_from_planar}
 use Rattle.exr_planar.specs.Moving.{AreMoved, AreLinesMoved, rows_at}
+use Rattle.exr_planar.proofs.Even.{row_even, place_even}
 use Rattle.exr_planar.proofs.Joined.{joined_same, middle}
 use Rattle.exr_planar.proofs.Grid.{AreSized, cut, swapped, cuts_sized, list_within, list_apart, columns_restore, columns_are, row_again, row_length, rows_length}
 use Rattle.exr_planar.proofs.Orders.{row_size, raw_place, plane_place, raw_grid, planar_grid, raw_whole, planar_whole, lines_suc, above_none, row_is, planar_row_is}
@@ -120,6 +121,8 @@ pub record IsAt (channels : List Channel) (region : Box2i) (n c at plane : ℕ) 
   pub next : at + rows.here ≡ raw_place channels region n (c + 1)
   pub next_plane : plane + rows.all ≡ plane_place_of channels region (c + 1)
   pub plane_room : plane + rows.all ≤ raw_size_of channels region
+  pub even_place : (plane + rows.above) % 2 ≡ 0
+  pub even_size : rows.here % 2 ≡ 0
 
 pub is_at : (channels : List Channel) (region : Box2i) (n c at plane : ℕ) (ch : Channel) (rows : Rows) → c < length channels → n < height_of region → ch ≡ get_or channels c ch → rows ≡ rows_at region n ch
     → at ≡ raw_place channels region n c → plane ≡ plane_place_of channels region c → IsAt channels region n c at plane rows
@@ -134,15 +137,18 @@ is_at channels region n c at plane ch rows lt lt₂ is sizes at_is plane_is =
     let planes = sum_by_more (channel_bytes_of region) channels c no_channel lt in
     let fits = sum_by_more_le (channel_bytes_of region) channels c no_channel lt in
     let whole = by_channels region channels in
+    let to : plane + rows.above ≡ plane_place channels region c n = omega arith in
     record {
       begins = at_is;
-      to = omega arith;
+      to = to;
       here = here;
       raw_room = omega arith;
       planar_room = omega arith;
       next = omega arith;
       next_plane = omega arith;
       plane_room = omega arith;
+      even_place = ap (λ (p : ℕ). p % 2) to ∙ place_even channels region c (region.y0 +ℤ pos n);
+      even_size = ap (λ (s : ℕ). s % 2) here ∙ row_even region (region.y0 +ℤ pos n) (channel_at channels c);
     }
 
 -- after the last channel the next line begins

@@ -4,5 +4,9 @@
 mod lines;
 mod planar;
 mod rows;
+mod sink;
+mod source;
 
-pub use planar::{from_planar, put_planar, put_raw, to_planar};
+pub use planar::{from_planar, put_planar, put_planar_in, put_raw, put_raw_from, to_planar};
+pub use sink::RowSink;
+pub use source::RowSource;

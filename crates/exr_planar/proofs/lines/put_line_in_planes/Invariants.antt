@@ -7,8 +7,9 @@ use Rattle.exr_planar.proofs.lines.put_line_in_planes.Given as goal
 
 -- the rows of the channels so far
 abbrev pub invariant-loop-channel : goal.invariant-loop-channel
-invariant-loop-channel l = record {
+invariant-loop-channel g l = record {
   at : l.at ≡ lines_bytes_of l.shape.channels.now l.shape.region l.line + sum_by (row_bytes_of l.shape.region (l.shape.region.y0 +ℤ pos l.line)) (take l.channel-index l.shape.channels.now);
   plane : l.plane ≡ plane_place_of l.shape.channels.now l.shape.region l.channel-index;
-  moved : AreMoved (row_of l.shape.channels.now l.shape.region) (planar_row_of l.shape.channels.now l.shape.region) l.shape.channels.now l.shape.region l.line l.channel-index l.raw l.initial.into l.into;
+  moved : AreMoved (row_of l.shape.channels.now l.shape.region) (planar_row_of l.shape.channels.now l.shape.region) l.shape.channels.now l.shape.region l.line l.channel-index l.raw (g.S.RowSink.planar l.initial.sink) (g.S.RowSink.planar l.sink);
+  memory : g.S.RowSink.memory l.sink ≡ g.S.RowSink.memory l.initial.sink;
 }
