@@ -1,10 +1,9 @@
 -- The parts of packed data, by what was read of it.
-use Rattle.std.proofs.Common.{◌≡◌, ℕ, ◌+◌, ◌-◌, ◌^◌, ◌<◌, ◌≤◌, ◌⊎◌, inl, inr, Bool, true, false, ◌||◌, cond, ltb, leb, List, length, take, drop, Result, Ok, Err, refl, sym, ap, ◌∙◌, arith}
-use Rattle.std.specs.Int.{w16, w32, from_le_bytes}
+use Rattle.std.proofs.Common.{◌≡◌, ℕ, ◌+◌, ◌-◌, ◌^◌, ◌<◌, ◌≤◌, ◌⊎◌, inl, inr, Bool, true, false, ◌||◌, cond, ltb, leb, List, length, take, drop, Ok, Err, refl, sym, ap, ◌∙◌}
+use Rattle.std.specs.Int.{w32, from_le_bytes}
 use Rattle.std.proofs.lemmas.Bool.{le-ltb, lt-ltb, le-leb, lt-leb, or_from}
-use Rattle.exr_piz.specs.declared.fault.PizFault.{PizFault}
-use Rattle.exr_piz.specs.declared.fault.PizFault.TheVariants.{Short, BadMap}
-use Rattle.exr_piz.specs.Stored.{Parts, first_of, last_of, parts_of}
+use Rattle.exr_piz.specs.declared.fault.PizFault.TheVariants.{Short}
+use Rattle.exr_piz.specs.Stored.{first_of, last_of, parts_of}
 
 -- what was read up to the length of the block
 pub record IsRead (packed : List ℕ) (first last size number : ℕ) : Type 0 where

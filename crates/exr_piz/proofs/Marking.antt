@@ -1,12 +1,11 @@
 -- Marks of values, as bits and as ranks.
-use Rattle.std.proofs.Common.{◌≡◌, ℕ, zero, suc, ◌+◌, ◌*◌, ◌%◌, ◌^◌, ◌<◌, ◌≤◌, Bool, true, false, ◌||◌, cond, eqb, List, [], ◌∷◌, ◌++◌, length, get_or, refl, sym, ap, ◌∙◌, arith}
+use Rattle.std.proofs.Common.{◌≡◌, ℕ, zero, suc, ◌+◌, ◌*◌, ◌%◌, ◌^◌, ◌<◌, ◌≤◌, Bool, ◌||◌, cond, eqb, List, [], ◌∷◌, ◌++◌, length, get_or, refl, sym, ap, ◌∙◌, arith}
 use Rattle.std.proofs.Math.Nat.{mod-eq_of_lt}
 use Rattle.std.proofs.lemmas.Bool.{ne_eqb}
 use Rattle.exr_piz.specs.Values.{passing_below, number_with}
 use Rattle.exr_piz.specs.Marks.{is_counted}
 use Rattle.exr_piz.proofs.Passing.{passing-none, passing-yes, length-passing-more}
-use Rattle.exr_piz.proofs.Numbers.{number_with-below, number_with-more}
-use Rattle.exr_wavelet.proofs.Waves.{pow_suc}
+use Rattle.exr_piz.proofs.Numbers.{number_with-more}
 
 -- a mark as a bit of a byte
 shifted : (mark i : ℕ) → mark ≤ 1 → 2 ^ i < 256 → mark * 2 ^ i % 256 ≡ cond (eqb mark 1) (2 ^ i) 0

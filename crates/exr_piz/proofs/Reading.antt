@@ -1,9 +1,9 @@
 -- The values that a stored map marks, one after the other.
-use Rattle.std.proofs.Common.{◌≡◌, ℕ, ◌+◌, ◌-◌, ◌*◌, ◌/◌, ◌%◌, ◌^◌, ◌<◌, ◌≤◌, Bool, true, false, ◌&&◌, ◌||◌, cond, eqb, leb, List, [], ◌∷◌, ◌++◌, length, take, get_or, set, refl, sym, ap, subst, ◌∙◌, arith}
+use Rattle.std.proofs.Common.{◌≡◌, ℕ, ◌+◌, ◌-◌, ◌*◌, ◌/◌, ◌%◌, ◌^◌, ◌<◌, ◌≤◌, Bool, false, cond, eqb, List, [], ◌∷◌, ◌++◌, length, take, get_or, set, refl, sym, ap, ◌∙◌, arith}
 use Rattle.std.proofs.lemmas.List.{get_or_past}
 use Rattle.std.proofs.lemmas.Bool.{ne_eqb, le-leb, lt-leb}
 use Rattle.std.proofs.Math.Nat.{zero-div}
-use Rattle.exr_piz.specs.Values.{passing_below, is_marked, is_present, values_of}
+use Rattle.exr_piz.specs.Values.{passing_below, is_present, values_of}
 use Rattle.exr_piz.proofs.Passing.{passing-none, passing-yes, passing-up_to, passing-more, kept_behind}
 
 -- no value below the first byte's is marked

@@ -1,5 +1,5 @@
 -- Packed data read again: its parts, its words, and the raw data.
-use Rattle.std.proofs.Common.{◌≡◌, ℕ, ◌+◌, ◌-◌, ◌*◌, ◌/◌, ◌^◌, ◌<◌, ◌≤◌, List, [], ◌∷◌, ◌++◌, length, take, drop, get_or, map, Result, Ok, Err, refl, sym, ap, ap₂, ◌∙◌, arith, append_assoc, length-append}
+use Rattle.std.proofs.Common.{◌≡◌, ℕ, ◌+◌, ◌-◌, ◌*◌, ◌/◌, ◌^◌, ◌<◌, List, [], ◌∷◌, ◌++◌, length, take, drop, get_or, map, Ok, refl, sym, ap, ap₂, ◌∙◌, arith, append_assoc, length-append}
 use Rattle.std.specs.Int.{w16, w32, to_le_bytes, from_le_bytes}
 use Rattle.std.specs.List.{sum_by}
 use Rattle.std.proofs.lemmas.List.{take_at, take_all, drop_at, drop-drop, length-map}
@@ -7,26 +7,21 @@ use Rattle.std.proofs.lemmas.List.Sums.{sum_by-cons}
 use Rattle.std.proofs.lemmas.Nat.{from_le_bytes-to_le_bytes_2, from_le_bytes-to_le_bytes_4}
 use Rattle.exr_base.specs.declared.shape.Box2i.{Box2i}
 use Rattle.exr_base.specs.declared.channel.Channel.{Channel}
-use Rattle.exr_base.specs.Refusal.{◌>>=◌}
 use Rattle.exr_base.specs.Shape.{raw_size_of}
 use Rattle.exr_base.proofs.RawSize.{by_channels}
 use Rattle.exr_huffman.specs.Blocks.{huffman_words_of}
-use Rattle.exr_packing.specs.Packed.{pack_of, greatest_of}
-use Rattle.exr_packing.proofs.Restored.{restored}
-use Rattle.exr_packing.proofs.Weighing.{greatest_small}
 use Rattle.exr_planar.specs.Planar.{raw_from_planar}
 use Rattle.exr_wavelet.specs.Level.{Matrix}
-use Rattle.exr_wavelet.specs.Wave.{wave_of, unwave_of}
-use Rattle.exr_piz.specs.Values.{passing_below, is_used, values_of, first_byte_of, last_byte_of, stored_map_of, map_front_of, rank_of, greatest_rank_of}
-use Rattle.exr_piz.specs.Words.{words_from, bytes_from}
+use Rattle.exr_wavelet.specs.Wave.{wave_of}
+use Rattle.exr_piz.specs.Values.{passing_below, is_used, first_byte_of, last_byte_of, stored_map_of, map_front_of, rank_of, greatest_rank_of}
+use Rattle.exr_piz.specs.Words.{bytes_from}
 use Rattle.exr_piz.specs.Planes.{columns_of, lines_of, sample_words_of, channel_words_of, planes_by, channels_by}
-use Rattle.exr_piz.specs.Stored.{Parts, parts_of}
-use Rattle.exr_piz.specs.Piz.{or_huffman, restored_from, piz_of, block_of, packed_words_of, piz_pack_of}
+use Rattle.exr_piz.specs.Stored.{parts_of}
+use Rattle.exr_piz.specs.Piz.{or_huffman, restored_from, piz_of, block_of, packed_words_of}
 use Rattle.exr_piz.proofs.Cutting.{cut_whole}
 use Rattle.exr_piz.proofs.Restoring.{channels_again, last_low, first_low, length-stored_map, values_are, greatest_low, rank_most, ranks_again}
-use Rattle.exr_piz.proofs.Sizes.{block_small}
 use Rattle.exr_piz.proofs.Turning.{words_twice, length-planes_by, channels_by-none, channels_by-cons}
-use Rattle.exr_piz.proofs.Unpacked.{even_size, restored_words, values_few}
+use Rattle.exr_piz.proofs.Unpacked.{even_size, restored_words}
 
 -- ---- the parts of five lists, one after the other
 

@@ -1,6 +1,6 @@
 -- How long the Huffman block of words is.
-use Rattle.std.proofs.Common.{◌≡◌, ℕ, zero, suc, ◌+◌, ◌-◌, ◌*◌, ◌/◌, ◌^◌, ◌<◌, ◌≤◌, Bool, false, List, ◌∷◌, ◌++◌, length, take, drop, replicate, refl, ap, ◌∙◌, arith, length-append}
-use Rattle.exr_base.specs.Bits.{number_of, first_bytes_of, bytes_of}
+use Rattle.std.proofs.Common.{◌≡◌, ℕ, zero, suc, ◌+◌, ◌/◌, ◌^◌, ◌<◌, ◌≤◌, Bool, List, ◌++◌, length, drop, refl, ap, arith, length-append}
+use Rattle.exr_base.specs.Bits.{first_bytes_of, bytes_of}
 use Rattle.exr_encoder.specs.Spelling.{table_bits}
 use Rattle.exr_encoder.proofs.Spelled.{table_size}
 use Rattle.exr_huffman.specs.Joined.{tokens_bits}

@@ -1,6 +1,6 @@
 -- How packed data is stored: the least and the greatest index of a byte of the value map that is not zero, the bytes
 -- from one to the other, the length of the Huffman block, and the block.
-use Rattle.std.specs.Prelude.{ℕ, ◌+◌, ◌-◌, ◌*◌, ◌^◌, ◌||◌, nat_lt, nat_le, if◌then◌else◌, List, length, take, drop, Result, Ok, Err}
+use Rattle.std.specs.Prelude.{ℕ, ◌+◌, ◌-◌, ◌^◌, ◌||◌, nat_lt, nat_le, if◌then◌else◌, List, length, take, drop, Result, Ok, Err}
 use Rattle.std.specs.Int.{w16, w32, from_le_bytes}
 use Rattle.exr_piz.specs.declared.fault.PizFault.{PizFault}
 use Rattle.exr_piz.specs.declared.fault.PizFault.TheVariants.{Short, BadMap}

@@ -7,7 +7,9 @@ mod fault;
 mod marks;
 mod packing;
 mod parts;
+mod planar_words;
 mod planes;
+mod ranked;
 mod unpacking;
 mod value_map;
 mod values;
@@ -15,4 +17,4 @@ mod words;
 
 pub use fault::PizFault;
 pub use packing::pack;
-pub use unpacking::unpack;
+pub use unpacking::{unpack, unpack_into};

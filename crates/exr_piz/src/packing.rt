@@ -10,11 +10,11 @@ ghost use Rattle.exr_planar.specs.Planar.{planar_of, raw_from_planar};
 ghost use Rattle.exr_piz.specs.Words.{words_from, bytes_from};
 ghost use Rattle.exr_piz.specs.Piz.{piz_of, packed_words_of, piz_pack_of};
 
+use crate::planar_words::PlanarWords;
 use crate::planes::{Way, turn_channels};
 use crate::value_map::renumber_words;
-use crate::words::put_words;
 use exr_base::{NoMemory, Shape};
-use exr_planar::to_planar;
+use exr_planar::put_planar_in;
 use std::alloc::Global;
 
 /// The packed data of the raw data of a region. It may be longer than the raw data.
@@ -32,7 +32,7 @@ pub fn pack(alloc: Global, raw: &[u8], shape: &Shape) -> Result<Vec<u8>, NoMemor
     Ok(pack_words(alloc, shape, words.as_mut_slice())?)
 }
 
-/// The words of raw data, channel by channel. What they are read from is let go of, so that the block may take its memory.
+/// The words of raw data, channel by channel.
 fn planar_words(alloc: Global, shape: &Shape, raw: &[u8]) -> Result<Vec<u16>, NoMemory>
     requires shape { IsShape shape.now.channels.now shape.now.region }
     requires size { length raw.now ≡ raw_size_of shape.now.channels.now shape.now.region }
@@ -42,10 +42,21 @@ fn planar_words(alloc: Global, shape: &Shape, raw: &[u8]) -> Result<Vec<u16>, No
     ensures restores { IfOk result (λ words. raw_from_planar shape.now.channels.now shape.now.region (bytes_from words.items) ≡ raw.now) }
 {
     let mut words = vec![in alloc; 0u16; raw.len() / 2]?;
-    let planar = to_planar(alloc, shape, raw)?;
     let slice = words.as_mut_slice();
-    put_words(&planar, slice);
+    put_planar_words(shape, raw, slice);
     Ok(words)
+}
+
+/// Writes the words of raw data, channel by channel.
+fn put_planar_words(shape: &Shape, raw: &[u8], words: &mut [u16])
+    requires shape { IsShape shape.now.channels.now shape.now.region }
+    requires raw { length raw.now ≡ raw_size_of shape.now.channels.now shape.now.region }
+    requires words { 2 * length words.old ≡ raw_size_of shape.now.channels.now shape.now.region }
+    ensures exact { words.new ≡ words_from (planar_of shape.now.channels.now shape.now.region raw.now) }
+    ensures restores { raw_from_planar shape.now.channels.now shape.now.region (bytes_from words.new) ≡ raw.now }
+{
+    let mut sink = PlanarWords { words };
+    put_planar_in(shape, raw, &mut sink);
 }
 
 /// The packed data of words channel by channel, which are used up.

@@ -1,22 +1,19 @@
 //! Unpacking: the parts of packed data, the words of the Huffman block, each plane's wavelet undone, and the values of
 //! ranks.
 
-ghost use Rattle.std.specs.Prelude.{◌≡◌, ◌-◌, ◌*◌, ◌/◌, ◌<◌, ◌≤◌, ◌^◌, length, map, slice_index, IfOk};
+ghost use Rattle.std.specs.Prelude.{◌≡◌, ◌*◌, ◌<◌, ◌≤◌, ◌^◌, length, IfOk, OnOk};
 ghost use Rattle.exr_base.specs.Refusal.{Gives};
 ghost use Rattle.exr_base.specs.Shape.{IsShape, raw_size_of};
 ghost use Rattle.exr_huffman.specs.Blocks.{huffman_words_of};
 ghost use Rattle.exr_piz.specs.Piz.{or_huffman, restored_from, piz_of};
-ghost use Rattle.exr_piz.specs.Planes.{channels_by};
-ghost use Rattle.exr_wavelet.specs.Wave.{unwave_of};
-ghost use Rattle.exr_piz.specs.Words.{bytes_from};
 
 use crate::fault::PizFault;
 use crate::parts::cut_parts;
 use crate::planes::{Way, turn_channels};
+use crate::ranked::RankedWords;
 use crate::values::stored_values;
-use crate::words::put_bytes;
 use exr_base::{NoMemory, Refusal, Shape};
-use exr_planar::from_planar;
+use exr_planar::put_raw_from;
 use std::alloc::Global;
 
 /// The raw data of a region that packed data stands for, or the first thing that is wrong with it. Bytes after the
@@ -28,10 +25,34 @@ pub fn unpack(alloc: Global, packed: &[u8], shape: &Shape) -> Result<Vec<u8>, Re
     ensures exact { Gives (λ raw. raw.items) result (piz_of shape.now.channels.now shape.now.region packed.now) }
     ensures size { IfOk result (λ raw. length raw.items ≡ raw_size_of shape.now.channels.now shape.now.region) }
 {
+    let mut raw = Vec::new(alloc);
+    match unpack_into(alloc, packed, shape, &mut raw) {
+        Ok(()) => Ok(raw),
+        Err(refusal) => Err(refusal),
+    }
+}
+
+/// The same in a vector whose memory is used again where it is enough; its bytes are let go of. After a refusal it holds
+/// any bytes. Memory of the raw size is taken only after the Huffman block was found to have all words.
+pub fn unpack_into(
+    alloc: Global,
+    packed: &[u8],
+    shape: &Shape,
+    raw: &mut Vec<u8>,
+) -> Result<(), Refusal<PizFault>>
+    requires shape { IsShape shape.now.channels.now shape.now.region }
+    requires some { 1 ≤ raw_size_of shape.now.channels.now shape.now.region }
+    requires most { raw_size_of shape.now.channels.now shape.now.region ≤ 2 ^ 26 }
+    ensures exact { Gives (λ _. raw.new.items) result (piz_of shape.now.channels.now shape.now.region packed.now) }
+    ensures size { OnOk result (length raw.new.items ≡ raw_size_of shape.now.channels.now shape.now.region) }
+{
+    let size = shape.raw_size() as usize;
     let parts = cut_parts(packed)?;
-    let words = huffman_words(alloc, parts.block, shape.raw_size() as usize / 2)?;
+    let mut words = huffman_words(alloc, parts.block, size / 2)?;
     let values = stored_values(alloc, parts.first, parts.map)?;
-    Ok(restore(alloc, shape, &values, words)?)
+    set_size(alloc, raw, size)?;
+    restore(shape, &values, &mut words, raw);
+    Ok(())
 }
 
 /// The words of a Huffman block.
@@ -47,43 +68,30 @@ fn huffman_words(alloc: Global, block: &[u8], words: usize) -> Result<Vec<u16>, 
     }
 }
 
-/// The planar data of the words of a block, whose memory is then free for what comes next.
-#[tactic(auto, using(exr_planar::proofs::Moves::raw_long))]
-fn planar_of_words(
-    alloc: Global,
-    shape: &Shape,
-    values: &[u16],
-    words: Vec<u16>,
-) -> Result<Vec<u8>, NoMemory>
-    requires shape { IsShape shape.now.channels.now shape.now.region }
-    requires size { 2 * length words.items ≡ raw_size_of shape.now.channels.now shape.now.region }
-    requires some { 0 < length values.now }
-    requires few { length values.now ≤ 65536 }
-    ensures exact { IfOk result (λ planar. planar.items ≡ bytes_from (map (slice_index values.now) (channels_by (unwave_of (length values.now - 1)) shape.now.region shape.now.channels.now words.items))) }
-    ensures size { IfOk result (λ planar. length planar.items ≡ raw_size_of shape.now.channels.now shape.now.region) }
+/// Gives a vector a size, with any bytes. Memory that is not enough is let go of before other memory is taken.
+fn set_size(alloc: Global, bytes: &mut Vec<u8>, size: usize) -> Result<(), NoMemory>
+    ensures { OnOk result (length bytes.new.items ≡ size) }
 {
-    let mut words = words;
-    turn_channels(shape, &mut words, Way::Decode, (values.len() - 1) as u16);
-    let mut planar = vec![in alloc; 0u8; 2 * words.len()]?;
-    put_bytes(values, &words, &mut planar);
-    Ok(planar)
+    if bytes.capacity() < size {
+        *bytes = Vec::new(alloc);
+        *bytes = vec![in alloc; 0u8; size]?;
+        return Ok(());
+    }
+    bytes.resize(size, 0)?;
+    Ok(())
 }
 
-/// The raw data of the words of a block.
-#[tactic(auto, using(exr_planar::proofs::Moves::raw_long), unfolding(crate::specs::Piz::restored_from))]
-fn restore(
-    alloc: Global,
-    shape: &Shape,
-    values: &[u16],
-    words: Vec<u16>,
-) -> Result<Vec<u8>, NoMemory>
+/// Writes the raw data of the words of a block, which are used up.
+#[tactic(auto, unfolding(crate::specs::Piz::restored_from))]
+fn restore(shape: &Shape, values: &[u16], words: &mut [u16], into: &mut [u8])
     requires shape { IsShape shape.now.channels.now shape.now.region }
-    requires size { 2 * length words.items ≡ raw_size_of shape.now.channels.now shape.now.region }
+    requires size { 2 * length words.old ≡ raw_size_of shape.now.channels.now shape.now.region }
     requires some { 0 < length values.now }
     requires few { length values.now ≤ 65536 }
-    ensures exact { IfOk result (λ raw. raw.items ≡ restored_from shape.now.channels.now shape.now.region values.now words.items) }
-    ensures size { IfOk result (λ raw. length raw.items ≡ raw_size_of shape.now.channels.now shape.now.region) }
+    requires into { length into.old ≡ raw_size_of shape.now.channels.now shape.now.region }
+    ensures { into.new ≡ restored_from shape.now.channels.now shape.now.region values.now words.old }
 {
-    let planar = planar_of_words(alloc, shape, values, words)?;
-    Ok(from_planar(alloc, shape, &planar)?)
+    turn_channels(shape, words, Way::Decode, (values.len() - 1) as u16);
+    let ranked = RankedWords { values, words };
+    put_raw_from(shape, &ranked, into);
 }

@@ -1,4 +1,4 @@
-use Rattle.std.proofs.Common.{◌≡◌, ℕ, Bool, ◌+◌, ◌*◌, ◌^◌, ◌<◌, eqb, get_or, refl, sym, arith}
+use Rattle.std.proofs.Common.{ℕ, Bool, ◌+◌, ◌*◌, ◌^◌, ◌<◌, eqb, get_or, refl, sym, arith}
 use Rattle.std.proofs.lemmas.Nat.{pow_below}
 use Rattle.exr_piz.proofs.Numbers.{number_with-none, number_with-below}
 use Rattle.exr_piz.proofs.Marking.{bit_more}

@@ -1,6 +1,6 @@
-use Rattle.std.proofs.Common.{◌≡◌, ◌<◌, ◌≤◌, ◌^◌, ℕ, List, Result, Ok, Err, IfOk, Vec, Global, length, ap, subst, sym}
+use Rattle.std.proofs.Common.{◌≡◌, ◌<◌, ◌^◌, ℕ, List, Result, Ok, Err, IfOk, Vec, Global, length, subst, sym}
 use Rattle.exr_base.specs.declared.refusal.NoMemory.{NoMemory}
-use Rattle.exr_packing.specs.Packed.{pack_of, greatest_of}
+use Rattle.exr_packing.specs.Packed.{pack_of}
 use Rattle.exr_packing.proofs.Weighing.{greatest_small}
 use Rattle.exr_piz.proofs.Sizes.{block_small}
 use Rattle.exr_piz.proofs.packing.block_of.Goals as goal

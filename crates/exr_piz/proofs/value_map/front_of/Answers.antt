@@ -1,8 +1,7 @@
-use Rattle.std.proofs.Common.{◌≡◌, ◌-◌, ◌<◌, ◌++◌, length, get_or, inl, inr, List, ℕ, Result, Ok, Err, IfOk, Vec, Global, [], take, drop, sym, ap, ◌∙◌, arith}
-use Rattle.std.specs.Int.{w16, to_le_bytes}
+use Rattle.std.proofs.Common.{◌≡◌, ◌<◌, length, get_or, inl, inr, List, ℕ, Result, Ok, Err, IfOk, Vec, Global, sym, ◌∙◌, arith}
 use Rattle.std.proofs.lemmas.Bool.{cases_lt}
 use Rattle.exr_base.specs.declared.refusal.NoMemory.{NoMemory}
-use Rattle.exr_piz.specs.Values.{map_byte, map_front_of}
+use Rattle.exr_piz.specs.Values.{map_byte}
 use Rattle.exr_piz.specs.Marks.{IsMapOf}
 use Rattle.exr_piz.proofs.Mapping.{front_none, front_some}
 use Rattle.exr_piz.proofs.value_map.front_of.Goals as goal

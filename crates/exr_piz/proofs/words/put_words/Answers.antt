@@ -1,4 +1,4 @@
-use Rattle.std.proofs.Common.{length, sym, ap, ◌∙◌, arith}
+use Rattle.std.proofs.Common.{length, ap, ◌∙◌, arith}
 use Rattle.exr_piz.specs.Words.{bytes_from}
 use Rattle.exr_piz.proofs.Spelling.{words_all}
 use Rattle.exr_piz.proofs.Restoring.{bytes_again}
