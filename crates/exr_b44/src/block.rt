@@ -1,6 +1,6 @@
 //! Packed data of a region, channel by channel, from raw data and back.
 
-ghost use Rattle.std.specs.Prelude.{◌≡◌, ℕ, ◌^◌, ◌<◌, ◌≤◌, ◌+◌, length, take, slice_index, IfOk, IfSome, MatchOption, MatchResult, Ok, Err, All};
+ghost use Rattle.std.specs.Prelude.{◌≡◌, ℕ, ◌^◌, ◌<◌, ◌≤◌, ◌+◌, length, take, slice_index, IfOk, OnOk, IfSome, MatchOption, MatchResult, Ok, Err, All};
 ghost use Rattle.std.specs.List.{sum_by};
 ghost use Rattle.exr_base.specs.Refusal.{Gives};
 ghost use Rattle.exr_base.specs.Shape.{IsShape, raw_size_of};
@@ -29,20 +29,39 @@ pub fn unpack(alloc: Global, packed: &[u8], shape: &Shape) -> Result<Vec<u8>, Re
     ensures exact { Gives (λ raw. raw.items) result (b44_of shape.now.channels.now shape.now.region packed.now) }
     ensures size { IfOk result (λ raw. length raw.items ≡ raw_size_of shape.now.channels.now shape.now.region) }
 {
+    let mut raw = Vec::new(alloc);
+    unpack_into(alloc, packed, shape, &mut raw)?;
+    Ok(raw)
+}
+
+/// The same in a vector, whose memory is used again where there is enough of it. After a refusal the vector may hold
+/// anything.
+pub fn unpack_into(
+    alloc: Global,
+    packed: &[u8],
+    shape: &Shape,
+    raw: &mut Vec<u8>,
+) -> Result<(), Refusal<B44Fault>>
+    requires shape { IsShape shape.now.channels.now shape.now.region }
+    requires plain { All IsPlain shape.now.channels.now }
+    requires size { raw_size_of shape.now.channels.now shape.now.region ≤ 2 ^ 26 }
+    ensures exact { Gives (λ _. raw.new.items) result (b44_of shape.now.channels.now shape.now.region packed.now) }
+    ensures size { OnOk result (length raw.new.items ≡ raw_size_of shape.now.channels.now shape.now.region) }
+{
     if least_size(shape) > packed.len() as u64 {
         return Err(Refusal::Fault(B44Fault::Short));
     }
     let size = shape.raw_size() as usize;
-    let mut raw = vec![in alloc; 0u8; size]?;
-    if let Some(line) = line_len(shape) {
-        return match unpack_lines(packed, shape, line, &mut raw) {
-            Ok(()) => Ok(raw),
-            Err(fault) => Err(Refusal::Fault(fault)),
-        };
-    }
-    let mut planar = vec![in alloc; 0u8; size]?;
-    match unpack_planes(packed, shape, &mut planar, &mut raw) {
-        Ok(()) => Ok(raw),
+    raw.resize(size, 0)?;
+    let unpacked = match line_len(shape) {
+        Some(line) => unpack_lines(packed, shape, line, raw),
+        None => {
+            let mut planar = vec![in alloc; 0u8; size]?;
+            unpack_planes(packed, shape, &mut planar, raw)
+        }
+    };
+    match unpacked {
+        Ok(()) => Ok(()),
         Err(fault) => Err(Refusal::Fault(fault)),
     }
 }

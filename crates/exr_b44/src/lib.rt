@@ -14,5 +14,5 @@ mod stripe;
 mod unpacking;
 mod writing;
 
-pub use block::{pack, unpack};
+pub use block::{pack, unpack, unpack_into};
 pub use fault::B44Fault;

@@ -1,7 +1,7 @@
 use Rattle.std.proofs.Common.{arith}
 use Rattle.exr_b44.proofs.Blocks.{is_short}
 use Rattle.exr_b44.proofs.Channels.{least_le}
-use Rattle.exr_b44.proofs.block.unpack.Goals as goal
+use Rattle.exr_b44.proofs.block.unpack_into.Goals as goal
 
 pub returns-then-least_size-packed-clause-exact : goal.returns-then-least_size-packed-clause-exact
 returns-then-least_size-packed-clause-exact c =
