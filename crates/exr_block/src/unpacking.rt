@@ -1,6 +1,6 @@
 //! The raw content of a chunk's data, by the method of its part.
 
-ghost use Rattle.std.specs.Prelude.{◌≡◌, ◌≤◌, ◌<◌, ◌^◌, IsTrue, IfOk, length};
+ghost use Rattle.std.specs.Prelude.{◌≡◌, ◌≤◌, ◌<◌, ◌^◌, IsTrue, IfOk, OnOk, length};
 ghost use Rattle.exr_base.specs.declared.method.Method.TheVariants as method;
 ghost use Rattle.exr_base.specs.Refusal.{Gives};
 ghost use Rattle.exr_base.specs.Shape.{IsShape, raw_size_of};
@@ -16,9 +16,9 @@ use std::alloc::Global;
 
 /// The raw content of a chunk whose data has a size that it may have, for the channels and the region of a shape.
 ///
-/// Data of the raw size is the raw content, whatever the method, and is not copied. Smaller data is unpacked: `Unsupported`
-/// comes exactly where the method is not read, and `Rle`, `Piz` or `B44` exactly where that
-/// method refuses the data.
+/// Data of the raw size is the raw content, whatever the method, and is not copied. Smaller data is unpacked, into the memory
+/// of `room` where a method can use that; the bytes in it are let go of. `Unsupported` comes exactly where the method is not
+/// read, and `Rle`, `Piz` or `B44` exactly where that method refuses the data.
 ///
 /// File Layout, "Chunk Layout"; Technical Introduction, "Data Compression".
 #[tactic(auto, unfolding(crate::specs::Content::raw_of_body))]
@@ -27,6 +27,7 @@ pub fn unpack_block(
     method: Method,
     shape: &Shape<'_>,
     body: Body,
+    room: Vec<u8>,
 ) -> Result<Block, Refusal<ChunkFault>>
     requires shape { IsShape shape.now.channels.now shape.now.region }
     requires fits { IsTrue (sizes_fit method shape.now.channels.now shape.now.region body) }
@@ -39,10 +40,9 @@ pub fn unpack_block(
             if data.len() as u64 == shape.raw_size() {
                 return Ok(Block::Flat(data));
             }
-            match unpack_data(alloc, method, shape, &data) {
-                Ok(raw) => Ok(Block::Flat(raw)),
-                Err(refusal) => Err(refusal),
-            }
+            let mut raw = room;
+            unpack_data(alloc, method, shape, &data, &mut raw)?;
+            Ok(Block::Flat(raw))
         }
     }
 }
@@ -54,31 +54,40 @@ fn unpack_data(
     method: Method,
     shape: &Shape<'_>,
     data: &[u8],
-) -> Result<Vec<u8>, Refusal<ChunkFault>>
+    raw: &mut Vec<u8>,
+) -> Result<(), Refusal<ChunkFault>>
     requires shape { IsShape shape.now.channels.now shape.now.region }
     requires small { raw_size_of shape.now.channels.now shape.now.region ≤ 2 ^ 26 }
     requires smaller { length «data».now < raw_size_of shape.now.channels.now shape.now.region }
-    ensures exact { Gives (λ raw. raw.items) result (unpacked_of method shape.now.channels.now shape.now.region «data».now) }
-    ensures size { IfOk result (λ raw. length raw.items ≡ raw_size_of shape.now.channels.now shape.now.region) }
+    ensures exact { Gives (λ _. raw.new.items) result (unpacked_of method shape.now.channels.now shape.now.region «data».now) }
+    ensures size { OnOk result (length raw.new.items ≡ raw_size_of shape.now.channels.now shape.now.region) }
 {
     match method {
-        Method::Rle => unpack_rle(alloc, shape, data),
-        Method::Piz => unpack_piz(alloc, shape, data),
-        Method::B44 | Method::B44a => unpack_b44(alloc, method, shape, data),
+        Method::Rle => unpack_rle(alloc, shape, data, raw),
+        Method::Piz => unpack_piz(alloc, shape, data, raw),
+        Method::B44 | Method::B44a => unpack_b44(alloc, method, shape, data, raw),
         _ => Err(Refusal::Fault(ChunkFault::Unsupported { method })),
     }
 }
 
-/// The same of runs and literals.
+/// The same of runs and literals, in memory of its own: that gains nothing by what is kept.
 #[tactic(auto, unfolding(crate::specs::Content::unpacked_of))]
-fn unpack_rle(alloc: Global, shape: &Shape<'_>, data: &[u8]) -> Result<Vec<u8>, Refusal<ChunkFault>>
+fn unpack_rle(
+    alloc: Global,
+    shape: &Shape<'_>,
+    data: &[u8],
+    raw: &mut Vec<u8>,
+) -> Result<(), Refusal<ChunkFault>>
     requires shape { IsShape shape.now.channels.now shape.now.region }
     requires small { raw_size_of shape.now.channels.now shape.now.region ≤ 2 ^ 26 }
-    ensures exact { Gives (λ raw. raw.items) result (unpacked_of method.Rle shape.now.channels.now shape.now.region «data».now) }
-    ensures size { IfOk result (λ raw. length raw.items ≡ raw_size_of shape.now.channels.now shape.now.region) }
+    ensures exact { Gives (λ _. raw.new.items) result (unpacked_of method.Rle shape.now.channels.now shape.now.region «data».now) }
+    ensures size { OnOk result (length raw.new.items ≡ raw_size_of shape.now.channels.now shape.now.region) }
 {
     match exr_rle::unpack(alloc, data, shape.raw_size() as usize) {
-        Ok(raw) => Ok(raw),
+        Ok(unpacked) => {
+            *raw = unpacked;
+            Ok(())
+        }
         Err(Refusal::Fault(_)) => Err(Refusal::Fault(ChunkFault::Rle)),
         Err(Refusal::NoMemory) => Err(Refusal::NoMemory),
     }
@@ -86,15 +95,20 @@ fn unpack_rle(alloc: Global, shape: &Shape<'_>, data: &[u8]) -> Result<Vec<u8>, 
 
 /// The same of the value map and the Huffman block of PIZ.
 #[tactic(auto, unfolding(crate::specs::Content::unpacked_of))]
-fn unpack_piz(alloc: Global, shape: &Shape<'_>, data: &[u8]) -> Result<Vec<u8>, Refusal<ChunkFault>>
+fn unpack_piz(
+    alloc: Global,
+    shape: &Shape<'_>,
+    data: &[u8],
+    raw: &mut Vec<u8>,
+) -> Result<(), Refusal<ChunkFault>>
     requires shape { IsShape shape.now.channels.now shape.now.region }
     requires some { 1 ≤ raw_size_of shape.now.channels.now shape.now.region }
     requires small { raw_size_of shape.now.channels.now shape.now.region ≤ 2 ^ 26 }
-    ensures exact { Gives (λ raw. raw.items) result (unpacked_of method.Piz shape.now.channels.now shape.now.region «data».now) }
-    ensures size { IfOk result (λ raw. length raw.items ≡ raw_size_of shape.now.channels.now shape.now.region) }
+    ensures exact { Gives (λ _. raw.new.items) result (unpacked_of method.Piz shape.now.channels.now shape.now.region «data».now) }
+    ensures size { OnOk result (length raw.new.items ≡ raw_size_of shape.now.channels.now shape.now.region) }
 {
-    match exr_piz::unpack(alloc, data, shape) {
-        Ok(raw) => Ok(raw),
+    match exr_piz::unpack_into(alloc, data, shape, raw) {
+        Ok(()) => Ok(()),
         Err(Refusal::Fault(fault)) => Err(Refusal::Fault(ChunkFault::Piz(fault))),
         Err(Refusal::NoMemory) => Err(Refusal::NoMemory),
     }
@@ -106,17 +120,18 @@ fn unpack_b44(
     method: Method,
     shape: &Shape<'_>,
     data: &[u8],
-) -> Result<Vec<u8>, Refusal<ChunkFault>>
+    raw: &mut Vec<u8>,
+) -> Result<(), Refusal<ChunkFault>>
     requires shape { IsShape shape.now.channels.now shape.now.region }
     requires small { raw_size_of shape.now.channels.now shape.now.region ≤ 2 ^ 26 }
-    ensures exact { Gives (λ raw. raw.items) result (b44_unpacked_of method shape.now.channels.now shape.now.region «data».now) }
-    ensures size { IfOk result (λ raw. length raw.items ≡ raw_size_of shape.now.channels.now shape.now.region) }
+    ensures exact { Gives (λ _. raw.new.items) result (b44_unpacked_of method shape.now.channels.now shape.now.region «data».now) }
+    ensures size { OnOk result (length raw.new.items ≡ raw_size_of shape.now.channels.now shape.now.region) }
 {
     if !are_plain(shape.channels) {
         return Err(Refusal::Fault(ChunkFault::Unsupported { method }));
     }
-    match exr_b44::unpack(alloc, data, shape) {
-        Ok(raw) => Ok(raw),
+    match exr_b44::unpack_into(alloc, data, shape, raw) {
+        Ok(()) => Ok(()),
         Err(Refusal::Fault(fault)) => Err(Refusal::Fault(ChunkFault::B44(fault))),
         Err(Refusal::NoMemory) => Err(Refusal::NoMemory),
     }

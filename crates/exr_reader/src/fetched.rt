@@ -21,13 +21,14 @@ use exr_outside::{Source, World};
 use exr_stream::{FetchFault, Stream};
 use std::alloc::Global;
 
-/// The raw content of the stored data of a chunk.
+/// The raw content of the stored data of a chunk, in the memory of `room` where it can use that.
 fn unpacked(
     alloc: Global,
     method: Method,
     shape: &Shape<'_>,
     index: u32,
     body: Body,
+    room: Vec<u8>,
 ) -> Result<Vec<u8>, ReadCause>
     requires shape { IsShape shape.now.channels.now shape.now.region }
     requires fits { IsTrue (sizes_fit method shape.now.channels.now shape.now.region body) }
@@ -37,7 +38,7 @@ fn unpacked(
     ensures cause { IfErr result (λ cause. HasCause cause (λ i fault. (i ≡ index)
         × (raw_of_body method shape.now.channels.now shape.now.region (data_of body) ≡ Err fault)) ⊥) }
 {
-    match unpack_block(alloc, method, shape, body) {
+    match unpack_block(alloc, method, shape, body, room) {
         Ok(Block::Flat(raw)) => Ok(raw),
         Err(Refusal::Fault(fault)) => Err(ReadCause::Chunk { index, fault }),
         Err(Refusal::NoMemory) => Err(ReadCause::NoMemory),
@@ -56,12 +57,13 @@ fn cause_of(index: u32, refusal: Refusal<FetchFault>) -> ReadCause
     }
 }
 
-/// The raw content of a chunk.
+/// The raw content of a chunk, in the memory of `room` where it can use that.
 pub(crate) fn raw_data<W: World, S: Source>(
     alloc: Global,
     stream: &mut Stream<W, S>,
     part: u32,
     index: u32,
+    room: Vec<u8>,
 ) -> Result<Vec<u8>, ReadCause>
     requires part { part < length stream.old.head.parts }
     requires index { index < chunk_count_of (header_at stream.old.head.parts part) }
@@ -79,7 +81,7 @@ pub(crate) fn raw_data<W: World, S: Source>(
     match stream.fetch(alloc, part, index) {
         Ok(body) => {
             let shape = stream.shape(part, index);
-            unpacked(alloc, method, &shape, index, body)
+            unpacked(alloc, method, &shape, index, body, room)
         }
         Err(refusal) => Err(cause_of(index, refusal)),
     }

@@ -22,7 +22,13 @@ use exr_outside::{Gate, Source, World};
 use exr_stream::Stream;
 use std::alloc::Global;
 
-/// The raw content of the chunks of a list from one rank to another. To read one is a job.
+/// Memory that was kept, or none.
+fn take_room(alloc: Global, kept: &mut Vec<Vec<u8>>) -> Vec<u8> {
+    kept.pop().unwrap_or(Vec::new(alloc))
+}
+
+/// The raw content of the chunks of a list from one rank to another, in memory that an earlier round was kept in. To read one
+/// is a job.
 fn read_round<W: World, S: Source, G: Gate>(
     alloc: Global,
     stream: &mut Stream<W, S>,
@@ -30,6 +36,7 @@ fn read_round<W: World, S: Source, G: Gate>(
     chunks: &[u32],
     from: usize,
     to: usize,
+    kept: Vec<Vec<u8>>,
     jobs: &mut Jobs<'_, G>,
 ) -> Result<Vec<Vec<u8>>, ReadCause>
     requires part { part < length stream.old.head.parts }
@@ -49,11 +56,13 @@ fn read_round<W: World, S: Source, G: Gate>(
     // The gate is told that a job is done also where its chunk could not be read.
     ensures done { jobs.new.begun ≡ None }
 {
+    let mut kept = kept;
     let mut raws = Vec::with_capacity(alloc, to - from)?;
     for rank in from..to {
         let index = chunks[rank];
+        let room = take_room(alloc, &mut kept);
         jobs.begin(index);
-        let raw = raw_data(alloc, stream, part, index);
+        let raw = raw_data(alloc, stream, part, index, room);
         jobs.end(index);
         match raw {
             Ok(raw) => raws.push(raw)?,
@@ -121,7 +130,7 @@ fn round_count(chunks: usize, round: usize) -> usize
     chunks.div_ceil(round)
 }
 
-/// Reads the chunks of a list and puts them, round by round.
+/// Reads the chunks of a list and puts them, round by round. The memory of a round is used again by the next.
 pub(crate) fn read_rounds<W: World, S: Source, G: Gate>(
     alloc: Global,
     stream: &mut Stream<W, S>,
@@ -158,11 +167,15 @@ pub(crate) fn read_rounds<W: World, S: Source, G: Gate>(
     ensures done { jobs.new.begun ≡ None }
 {
     let size = round as usize;
+    let mut kept = Vec::new(alloc);
     for rounds in 0..round_count(chunks.len(), size) {
         let from = rounds * size;
         let to = chunks.len().min(from + size);
-        match read_round(alloc, stream, target.part, chunks, from, to, jobs) {
-            Ok(raws) => put_round(stream, target, chunks, from, raws.as_slice(), into),
+        match read_round(alloc, stream, target.part, chunks, from, to, kept, jobs) {
+            Ok(raws) => {
+                put_round(stream, target, chunks, from, raws.as_slice(), into);
+                kept = raws;
+            }
             Err(cause) => {
                 return Err(ReadStop {
                     cause,

@@ -72,7 +72,7 @@ fn read_front<W: World, S: Source>(
         (Rose (S.means.faults stream.old.source) (S.means.faults stream.new.source))) }
 {
     if let Some(index) = chunks.first() {
-        raw_data(alloc, stream, part, *index)?;
+        raw_data(alloc, stream, part, *index, Vec::new(alloc))?;
     }
     Ok(())
 }

@@ -141,7 +141,7 @@ fn unpack(
     let body = Body::Flat(packed);
     let mut wanted = false;
     if sizes_fit(method, shape, &body) {
-        wanted = match unpack_block(alloc, method, shape, body) {
+        wanted = match unpack_block(alloc, method, shape, body, Vec::new(alloc)) {
             Ok(_block) => true,
             Err(Refusal::Fault(fault)) => is_of_method(method, fault),
             Err(Refusal::NoMemory) => return Err(Stop::NoMemory),

@@ -302,7 +302,7 @@ fn unpacked(alloc: Global, part: &Header, data: &[u8]) -> Result<Result<Vec<u8>,
     if shape.raw_size() > 1 << 26 {
         return Err("too large a region".into());
     }
-    match unpack_block(alloc, part.method(), &shape, body) {
+    match unpack_block(alloc, part.method(), &shape, body, Vec::new(alloc)) {
         Ok(Block::Flat(raw)) => Ok(Ok(raw)),
         Err(Refusal::Fault(fault)) => Ok(Err(fault)),
         Err(Refusal::NoMemory) => Err("no memory".into()),
