@@ -102,8 +102,8 @@ pub(crate) fn pack(alloc: Global, bytes: &[u8], repeats: u32) -> Result<u64, Sto
     Ok(sum)
 }
 
-/// The raw data that packed data stands for, of a block's shape.
-fn unpacked(alloc: Global, block: &Block<'_>, data: &[u8]) -> Result<Vec<u8>, Stop>
+/// Unpacks packed data of a block's shape into a vector.
+fn unpack_into(alloc: Global, block: &Block<'_>, data: &[u8], raw: &mut Vec<u8>) -> Result<(), Stop>
     requires { IsShape block.now.channels.items block.now.region }
 {
     let shape = Shape {
@@ -114,7 +114,7 @@ fn unpacked(alloc: Global, block: &Block<'_>, data: &[u8]) -> Result<Vec<u8>, St
     if size == 0 || size > 1 << 26 {
         return Err(Stop::Form);
     }
-    Ok(exr_piz::unpack(alloc, data, &shape)?)
+    Ok(exr_piz::unpack_into(alloc, data, &shape, raw)?)
 }
 
 /// Unpacks a block's packed data so often.
@@ -122,16 +122,19 @@ pub(crate) fn unpack(alloc: Global, bytes: &[u8], repeats: u32) -> Result<u64, S
     let block = block_of(alloc, bytes)?;
     let mut sum = 0;
     for turn in 0..repeats {
-        let raw = unpacked(alloc, &block, block.data)?;
+        let mut raw = Vec::new(alloc);
+        unpack_into(alloc, &block, block.data, &mut raw)?;
         sum = add_bytes(sum, &raw, turn, turn + 1 == repeats);
     }
     Ok(sum)
 }
 
-/// Unpacks all blocks of a file so often. Their number comes first, and each block's size before its data.
+/// Unpacks all blocks of a file so often, each into the same vector. Their number comes first, and each block's size before
+/// its data.
 pub(crate) fn unpack_all(alloc: Global, bytes: &[u8], repeats: u32) -> Result<u64, Stop> {
     let (count, blocks) = number(bytes)?;
     let mut sum = 0;
+    let mut raw = Vec::new(alloc);
     for turn in 0..repeats {
         let mut rest = blocks;
         for _ in 0..count {
@@ -140,7 +143,7 @@ pub(crate) fn unpack_all(alloc: Global, bytes: &[u8], repeats: u32) -> Result<u6
             if size > data.len() {
                 return Err(Stop::Form);
             }
-            let raw = unpacked(alloc, &block, &data[..size])?;
+            unpack_into(alloc, &block, &data[..size], &mut raw)?;
             sum = add_bytes(sum, &raw, turn, turn + 1 == repeats);
             rest = &data[size..];
         }
