@@ -52,6 +52,7 @@ Faults of a chunk (status 3, part P chunk C fault N): of the first faulty one
   6  Rle                 its run lengths do not stand for the raw size
   7  Piz                 its PIZ data is cut off, or does not unpack
   8  B44                 its B44 data ends too early, or has bytes left over
+  9  Deep                its deep data does not unpack, or differs in its sizes
 ";
 
 pub const REQUEST_FAULTS: &str = "

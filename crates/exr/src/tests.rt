@@ -7,7 +7,7 @@ use crate::faults::{
 use exr_attributes::{Bound, Field, HeaderFault};
 use exr_b44::B44Fault;
 use exr_base::Method;
-use exr_block::ChunkFault;
+use exr_block::{ChunkFault, DeepFault};
 use exr_piz::PizFault;
 use exr_tools::{FileFault, LayoutFault, MatchFault, RequestFault, Stop};
 use std::process::Abort;
@@ -164,7 +164,7 @@ fn faults_of_heads(rt: HostRuntime) -> Result<(), Fail> {
     Ok(())
 }
 
-const OF_CHUNKS: [ChunkFault; 8] = [
+const OF_CHUNKS: [ChunkFault; 9] = [
     ChunkFault::Unwritten,
     ChunkFault::Outside,
     ChunkFault::WrongPlace,
@@ -175,6 +175,7 @@ const OF_CHUNKS: [ChunkFault; 8] = [
     ChunkFault::Rle,
     ChunkFault::Piz(PizFault::Short),
     ChunkFault::B44(B44Fault::Short),
+    ChunkFault::Deep(DeepFault::TableBroken),
 ];
 
 #[test]

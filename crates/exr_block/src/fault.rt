@@ -5,6 +5,7 @@ ghost use Rattle.exr_block.specs.Fault.{number_of};
 
 use exr_b44::B44Fault;
 use exr_base::Method;
+use exr_deep::DeepFault;
 use exr_piz::PizFault;
 use thiserror::Error;
 
@@ -20,7 +21,8 @@ pub enum ChunkFault {
     /// Its fields name another chunk than the entry is for.
     #[error("another chunk's place")]
     WrongPlace,
-    /// Its data is larger than its raw data, or, without compression, of another size.
+    /// Its data is larger than its raw data, or, without compression, of another size. In a deep chunk this holds of the
+    /// table and of the samples; more than 2^26 bytes of samples unpacked is a wrong size too.
     #[error("wrong size")]
     WrongSize,
     /// Its data is packed by a method that is not read.
@@ -35,10 +37,13 @@ pub enum ChunkFault {
     /// Its data is not that of the cells and samples of the region.
     #[error("B44: {0}")]
     B44(B44Fault),
+    /// The data of a deep chunk is not that of a number of samples for each pixel, and of the samples.
+    #[error("deep: {0}")]
+    Deep(DeepFault),
 }
 
 impl ChunkFault {
-    /// The number by which the program names the fault, 1 to 8 (own).
+    /// The number by which the program names the fault, 1 to 9 (own).
     pub fn number(self) -> u8
         ensures { result ≡ number_of self }
     {
@@ -51,6 +56,7 @@ impl ChunkFault {
             ChunkFault::Rle => 6,
             ChunkFault::Piz(_) => 7,
             ChunkFault::B44(_) => 8,
+            ChunkFault::Deep(_) => 9,
         }
     }
 }

@@ -1,5 +1,6 @@
-//! The data of one chunk: as it is stored in a file, and raw. `unpack_block` gives exactly the raw content or its first
-//! fault, `pack_block` exactly the data that a writer stores; `sizes_fit`, `fits` and `can_pack` say what each may be given.
+//! The data of one chunk, deep or not: as it is stored in a file, and raw. `unpack_block` gives exactly the raw content or
+//! its first fault, `pack_block` exactly the data that a writer stores; `sizes_fit`, `fits` and `can_pack` say what each may
+//! be given.
 #![tactic(auto)]
 
 mod body;
@@ -10,7 +11,8 @@ mod sizes;
 mod unpacking;
 
 pub use body::{Block, Body};
+pub use exr_deep::{DeepBlock, DeepFault, DeepPacked};
 pub use fault::ChunkFault;
 pub use packing::{can_pack, fits, pack_block};
-pub use sizes::{is_size, sizes_fit};
+pub use sizes::{DeepSizes, are_sizes, is_size, raw_bytes, sizes_fit};
 pub use unpacking::unpack_block;

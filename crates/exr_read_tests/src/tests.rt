@@ -2,6 +2,7 @@
 
 mod asked;
 mod block;
+mod deep;
 mod heads;
 mod planar;
 mod request;

@@ -25,6 +25,7 @@ use Rattle.exr_base.specs.Shape.{raw_place_of}
 use Rattle.exr_frame.specs.Buffer.{IsInRegion, chunk_byte, byte_of}
 use Rattle.exr_layout.proofs.Standing.{place_once}
 use Rattle.exr_frame.proofs.Channelled.{channel_of_slice}
+use Rattle.exr_block.specs.Body.{flat_content}
 use Rattle.exr_reader.specs.Sample.{sample_of, sample_in, raw_of, raw_or_none}
 use Rattle.exr_reader.specs.Window.{Target, byte_by, file_byte, IsChunkPut, ArePut, IsFilled}
 use Rattle.exr_reader.proofs.Meeting.{chunk_listed}
@@ -58,7 +59,7 @@ byte_taken xs at size b lt = get_or-take size (drop at xs) b 0 lt ∙ get_or-dro
 
 pub same_byte : (file : Opened) (part i : ℕ) (raw : List ℕ) (placements : List Placement) (places : List (Option ℕ)) (k : Byte) (found : Option ℕ)
     → slice_index_or places k.slice None ≡ found → AreMatched (header_in file part) placements places
-    → raw_of file part i ≡ Ok raw → chunk_with (header_in file part) k.x k.y ≡ i → k.byte < bytes_of (placement_at placements k.slice).kind
+    → raw_of file part i ≡ Ok (flat_content raw) → chunk_with (header_in file part) k.x k.y ≡ i → k.byte < bytes_of (placement_at placements k.slice).kind
     → byte_of (header_in file part).channels (region_of (header_in file part) i) raw (placement_at placements k.slice) found k ≡ byte_by (sample_of file part) (placement_at placements k.slice) found k
 same_byte file part i raw placements places k None is matched chunk here within = refl
 same_byte file part i raw placements places k (Some c) is matched chunk here within =
@@ -102,7 +103,7 @@ ground h f plan picture inside planned valid = record {
 
 pub put_next : (t : Target) (chunks : List ℕ) (n : ℕ) (raw first old new : List ℕ)
     → IsGround (header_in t.file t.part) t.frame t.places → n < length chunks → slice_index chunks n < chunk_count_of (header_in t.file t.part)
-    → raw_of t.file t.part (slice_index chunks n) ≡ Ok raw
+    → raw_of t.file t.part (slice_index chunks n) ≡ Ok (flat_content raw)
     → IsChunkPut (header_in t.file t.part) t.frame t.places (slice_index chunks n) raw old new
     → ArePut t chunks n first old → ArePut t chunks (n + 1) first new
 unfolding file_byte chunk_byte

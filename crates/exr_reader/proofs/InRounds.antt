@@ -5,6 +5,7 @@ use Rattle.std.proofs.lemmas.Nat.{mul-le, div-add-mod', mod_below, div-mul-add}
 use Rattle.std.proofs.lemmas.List.{get_or-map, get_or_append_left, get_or_push, length_push}
 use Rattle.exr_base.specs.Shape.{raw_size_of}
 use Rattle.exr_block.specs.declared.fault.ChunkFault.{ChunkFault}
+use Rattle.exr_block.specs.Body.{flat_content}
 use Rattle.exr_chunks.specs.Region.{region_of}
 use Rattle.exr_outside.specs.Source.{SourceMeaning}
 use Rattle.exr_stream.specs.Chunk.{Opened, header_in}
@@ -26,7 +27,7 @@ raw_none told file part chunks from = record {
 
 pub raw_more : (told : Type 0) (file : Opened) (part : ℕ) (chunks : List ℕ) (from rank : ℕ) (raws : List (List ℕ)) (raw : List ℕ) → rank ≡ from + length raws
     → length raw ≡ raw_size_of (header_in file part).channels (region_of (header_in file part) (slice_index chunks rank))
-    → (told → raw_of file part (slice_index chunks rank) ≡ Ok raw)
+    → (told → raw_of file part (slice_index chunks rank) ≡ Ok (flat_content raw))
     → AreRaw told file part chunks from raws → AreRaw told file part chunks from (raws ++ raw ∷ [])
 raw_more told file part chunks from rank raws raw here size bytes are =
     let h = header_in file part in
@@ -40,11 +41,11 @@ raw_more told file part chunks from rank raws raw here size bytes are =
             ap length (get_or_push raws raw [] k (sym last)) ∙ size ∙ ap (λ r. raw_size_of h.channels (region_of h (slice_index chunks r))) (sym at)
       ];
       bytes = λ t k lt. elim (cases_lt k (length raws)) [
-        | inl before ↦ are.bytes t k before ∙ ap (λ (r : List ℕ). Ok r) (sym (get_or_append_left raws (raw ∷ []) [] k before))
+        | inl before ↦ are.bytes t k before ∙ ap (λ (r : List ℕ). Ok (flat_content r)) (sym (get_or_append_left raws (raw ∷ []) [] k before))
         | inr le ↦
             let last : k ≡ length raws = omega (arith, le, lt, more) in
             let at : from + k ≡ rank = omega (arith, last, here) in
-            ap (λ r. raw_of file part (slice_index chunks r)) at ∙ bytes t ∙ ap (λ (r : List ℕ). Ok r) (sym (get_or_push raws raw [] k (sym last)))
+            ap (λ r. raw_of file part (slice_index chunks r)) at ∙ bytes t ∙ ap (λ (r : List ℕ). Ok (flat_content r)) (sym (get_or_push raws raw [] k (sym last)))
       ];
     }
 
@@ -55,7 +56,7 @@ raw_data told file part chunks from raws t are r behind within =
     let k = r - from in
     let at : from + k ≡ r = omega (arith, behind) in
     let has = are.bytes t k (omega (arith, behind, within)) in
-    (slice_index_or raws k [], ap (λ m. raw_of file part (slice_index chunks m)) (sym at) ∙ has)
+    (flat_content (slice_index_or raws k []), ap (λ m. raw_of file part (slice_index chunks m)) (sym at) ∙ has)
 
 -- the bytes of an item of a list of vectors
 pub item_at : (raws : List (Vec ℕ Global)) (k : ℕ) (v : Vec ℕ Global) → k < length raws → v ≡ get_or raws k v → v.items ≡ slice_index_or (map (λ raw. raw.items) raws) k []

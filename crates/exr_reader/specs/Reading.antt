@@ -1,6 +1,7 @@
 -- What reading answers.
 use Rattle.std.specs.Prelude.{◌≡◌, ℕ, List, Ok}
 use Rattle.exr_block.specs.declared.fault.ChunkFault.{ChunkFault}
+use Rattle.exr_block.specs.Body.{Content}
 use Rattle.exr_stream.specs.Chunk.{Opened}
 use Rattle.exr_reader.specs.declared.cause.ReadCause.{ReadCause}
 use Rattle.exr_reader.specs.declared.cause.ReadCause.TheVariants as cause
@@ -8,7 +9,7 @@ use Rattle.exr_reader.specs.Sample.{raw_of}
 
 -- a chunk has raw content
 abbrev pub HasData : Opened → ℕ → ℕ → Type 0
-HasData file part i = (bytes : List ℕ) × (raw_of file part i ≡ Ok bytes)
+HasData file part i = (content : Content) × (raw_of file part i ≡ Ok content)
 
 -- the fact that goes with each cause; want of memory needs none
 abbrev pub HasCause : ReadCause → (ℕ → ChunkFault → Type 0) → Type 0 → Type 0

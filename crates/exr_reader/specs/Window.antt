@@ -3,6 +3,7 @@ use Rattle.std.specs.Prelude.{◌≡◌, ◌<◌, ◌≤◌, ◌/◌, ◌%◌, �
 use Rattle.exr_base.specs.declared.shape.Box2i.{Box2i}
 use Rattle.exr_base.specs.Shape.{raw_size_of}
 use Rattle.exr_block.specs.declared.fault.ChunkFault.{ChunkFault}
+use Rattle.exr_block.specs.Body.{flat_content}
 use Rattle.exr_chunks.specs.Heads.{Header, chunk_count_of}
 use Rattle.exr_chunks.specs.Region.{region_of}
 use Rattle.exr_chunks.specs.Pixels.{chunk_with}
@@ -101,4 +102,4 @@ IsChunkPut h f places i raw old new =
 -- the raw content of the chunks of a list from a rank on, where the file is known
 pub record AreRaw (told : Type 0) (file : Opened) (part : ℕ) (chunks : List ℕ) (from : ℕ) (raws : List (List ℕ)) : Type 0 where
   pub sizes : (k : ℕ) → k < length raws → length (slice_index_or raws k []) ≡ raw_size_of (header_in file part).channels (region_of (header_in file part) (slice_index chunks (from + k)))
-  pub bytes : told → (k : ℕ) → k < length raws → raw_of file part (slice_index chunks (from + k)) ≡ Ok (slice_index_or raws k [])
+  pub bytes : told → (k : ℕ) → k < length raws → raw_of file part (slice_index chunks (from + k)) ≡ Ok (flat_content (slice_index_or raws k []))

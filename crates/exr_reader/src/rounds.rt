@@ -13,7 +13,7 @@ ghost use Rattle.exr_reader.specs.Reading.{HasCause};
 ghost use Rattle.exr_reader.specs.Window.{target_of, AreChunks, AreRaw, IsFaultFrom, IsChunkPut, ArePut, HaveDataOf, IsStopAt};
 
 use crate::cause::ReadCause;
-use crate::fetched::raw_data;
+use crate::fetched::read_bytes;
 use crate::jobs::Jobs;
 use crate::target::Target;
 use crate::work::ReadStop;
@@ -62,7 +62,7 @@ fn read_round<W: World, S: Source, G: Gate>(
         let index = chunks[rank];
         let room = take_room(alloc, &mut kept);
         jobs.begin(index);
-        let raw = raw_data(alloc, stream, part, index, room);
+        let raw = read_bytes(alloc, stream, part, index, room);
         jobs.end(index);
         match raw {
             Ok(raw) => raws.push(raw)?,

@@ -13,7 +13,7 @@ ghost use Rattle.exr_reader.specs.Reading.{HasCause};
 ghost use Rattle.exr_reader.specs.Window.{target_of, AreChunks, ArePut, IsFilled, HaveDataOf, IsFirstFaultOf, IsStopAt};
 
 use crate::cause::ReadCause;
-use crate::fetched::raw_data;
+use crate::fetched::read_bytes;
 use crate::jobs::Jobs;
 use crate::rounds::read_rounds;
 use crate::target::Target;
@@ -72,13 +72,13 @@ fn read_front<W: World, S: Source>(
         (Rose (S.means.faults stream.old.source) (S.means.faults stream.new.source))) }
 {
     if let Some(index) = chunks.first() {
-        raw_data(alloc, stream, part, *index, Vec::new(alloc))?;
+        read_bytes(alloc, stream, part, *index, Vec::new(alloc))?;
     }
     Ok(())
 }
 
 /// The chunks that a window meets, by rising indexes.
-fn window_chunks<W: World, S: Source>(
+pub(crate) fn window_chunks<W: World, S: Source>(
     stream: &Stream<W, S>,
     alloc: Global,
     part: u32,

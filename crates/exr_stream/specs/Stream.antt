@@ -3,8 +3,6 @@ use Rattle.std.specs.Prelude.{◌≡◌, ◌*◌, ◌≤◌, ◌^◌, ℕ, IsTru
 use Rattle.exr_base.specs.declared.refusal.Refusal.{Refusal}
 use Rattle.exr_base.specs.declared.refusal.Refusal.TheVariants.{Fault, NoMemory}
 use Rattle.exr_block.specs.declared.fault.ChunkFault.{ChunkFault}
-use Rattle.exr_block.specs.declared.body.Body.{Body}
-use Rattle.exr_block.specs.Body.{data_of}
 use Rattle.exr_header.specs.Head.{Head, head_of}
 use Rattle.exr_chunks.specs.Heads.{chunk_count_of, IsPicture}
 use Rattle.exr_chunks.specs.Part.{without_attributes}
@@ -38,12 +36,16 @@ pub record IsSameStream {S : Type 0} (means : SourceMeaning S) (old new : Stream
 
 -- ---- answers
 
--- the data of a chunk, or its fault; a failed read and want of memory say nothing
-abbrev pub Fetches : Result Body (Refusal FetchFault) → Result (List ℕ) ChunkFault → Type 0
-Fetches (Ok body) chunk = chunk ≡ Ok (data_of body)
-Fetches (Err (Fault (fetch.Chunk f))) chunk = chunk ≡ Err f
-Fetches (Err (Fault fetch.Read)) chunk = Unit {0}
-Fetches (Err NoMemory) chunk = Unit {0}
+-- a refused fetch has the fault of the chunk; a failed read and want of memory say nothing
+abbrev pub RefusesFetch : {A : Type 0} → Refusal FetchFault → Result A ChunkFault → Type 0
+RefusesFetch (Fault (fetch.Chunk f)) chunk = chunk ≡ Err f
+RefusesFetch (Fault fetch.Read) chunk = Unit {0}
+RefusesFetch NoMemory chunk = Unit {0}
+
+-- what a fetch answered, seen by view, is the chunk's
+abbrev pub Fetches : {X A : Type 0} → (X → A) → Result X (Refusal FetchFault) → Result A ChunkFault → Type 0
+Fetches view (Ok x) chunk = chunk ≡ Ok (view x)
+Fetches view (Err e) chunk = RefusesFetch e chunk
 
 -- a failed read owes a rise
 abbrev pub OwesFetch : {T : Type 0} → Result T (Refusal FetchFault) → Type 0 → Type 0

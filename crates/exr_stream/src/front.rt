@@ -4,6 +4,7 @@ ghost use Rattle.std.specs.Prelude.{◌≡◌, ◌*◌, ◌≤◌, ◌<◌, ◌^
 ghost use Rattle.exr_outside.specs.Count.{Rose};
 ghost use Rattle.exr_outside.specs.Source.{IsSameSource};
 ghost use Rattle.exr_chunks.specs.Heads.{Header, is_deep};
+ghost use Rattle.exr_block.specs.Sizes.{raw_bytes_of};
 ghost use Rattle.exr_header.specs.Head.{head_of};
 ghost use Rattle.exr_opening.specs.Opening.{OnlyReads};
 ghost use Rattle.exr_base.specs.Shape.{IsRegion, IsShape, raw_size_of};
@@ -133,6 +134,7 @@ impl Front {
         ensures shape { IsShape result.channels.now result.region }
         ensures small { is_deep (header_at self.now.head.parts part).kind ≡ false
             → raw_size_of result.channels.now result.region ≤ 2 ^ 26 }
+        ensures bytes { raw_bytes_of (is_deep (header_at self.now.head.parts part).kind) result.channels.now result.region ≤ 2 ^ 26 }
     {
         let region = self.region(part, index);
         let header = &self.head.parts()[part as usize];
@@ -142,7 +144,7 @@ impl Front {
         }
     }
 
-    /// What is asked of a chunk.
+    /// What is expected of a chunk.
     pub fn expected(&self, alloc: Global, part: u32, index: u32) -> Result<Expected, NoMemory>
         requires front { IsFront self.now }
         requires part { part < length self.now.head.parts }
@@ -150,14 +152,18 @@ impl Front {
         ensures fields { IfOk result (λ e. e.fields.items
             ≡ chunk_fields self.now.head.multi part (place_of (header_at self.now.head.parts part) index)) }
         ensures short { IfOk result (λ e. length e.fields.items ≤ 20) }
+        ensures deep { IfOk result (λ e. e.deep ≡ is_deep (header_at self.now.head.parts part).kind) }
         ensures method { IfOk result (λ e. e.method ≡ (header_at self.now.head.parts part).method) }
+        ensures small { IfOk result (λ e. e.raw ≤ 2 ^ 26) }
         ensures raw { IfOk result (λ e. e.raw ≡ chunk_bytes_of (header_at self.now.head.parts part) index) }
     {
         let place = self.geometry.place(part, index);
         let fields = chunk_fields(alloc, self.head.multi(), part, place)?;
+        let header = &self.head.parts()[part as usize];
         Ok(Expected {
             fields,
-            method: self.head.parts()[part as usize].method(),
+            deep: header.kind().is_deep(),
+            method: header.method(),
             raw: self.geometry.raw_size(part, index),
         })
     }

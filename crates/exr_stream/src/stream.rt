@@ -9,7 +9,8 @@ ghost use Rattle.exr_chunks.specs.Heads.{IsPicture, chunk_count_of};
 ghost use Rattle.exr_base.specs.Boxes.{IsInside};
 ghost use Rattle.exr_chunks.specs.Part.{without_attributes};
 ghost use Rattle.exr_chunks.specs.Region.{header_at, region_of};
-ghost use Rattle.exr_block.specs.Sizes.{sizes_fit};
+ghost use Rattle.exr_block.specs.Body.{data_of, is_deep_data};
+ghost use Rattle.exr_block.specs.Sizes.{raw_bytes_of, sizes_fit};
 ghost use Rattle.exr_stream.specs.Chunk.{chunk_of};
 ghost use Rattle.exr_stream.specs.Stream.{file_of, HasHead, IsSameStream, IsWhyNot, OwesRead, Fetches, OwesFetch};
 
@@ -131,6 +132,7 @@ impl<W: World, S: Source> Stream<W, S> {
         ensures shape { IsShape result.channels.now result.region }
         ensures small { is_deep (header_at self.now.head.parts part).kind ≡ false
             → raw_size_of result.channels.now result.region ≤ 2 ^ 26 }
+        ensures bytes { raw_bytes_of (is_deep (header_at self.now.head.parts part).kind) result.channels.now result.region ≤ 2 ^ 26 }
     {
         self.front.shape(part, index)
     }
@@ -162,10 +164,10 @@ impl<W: World, S: Source> Stream<W, S> {
         source
     }
 
-    /// The data of a chunk of a part that is not deep: as they stand in the file, or the first thing that is wrong with
-    /// the chunk.
+    /// The data of a chunk, as it is stored in the file, or the first thing that is wrong with the chunk.
     ///
-    /// The fields of the chunk and its data are read in one piece, of at most as many bytes as there are.
+    /// The fields and the data of a chunk of a part that is not deep are read in one piece, of at most as many bytes as there
+    /// are. The data of a deep chunk is read after its fields, which say its sizes; these are validated first.
     pub fn fetch(
         &mut self,
         alloc: Global,
@@ -174,10 +176,10 @@ impl<W: World, S: Source> Stream<W, S> {
     ) -> Result<Body, Refusal<FetchFault>>
         requires part { part < length self.now.head.parts }
         requires index { index < chunk_count_of (header_at self.now.head.parts part) }
-        requires flat { is_deep (header_at self.now.head.parts part).kind ≡ false }
-        ensures chunk { IsTrue S.means.tells → Fetches result (chunk_of (file_of S.means self.old) part index) }
+        ensures chunk { IsTrue S.means.tells → Fetches data_of result (chunk_of (file_of S.means self.old) part index) }
+        ensures form { IfOk result (λ body. is_deep_data (data_of body) ≡ is_deep (header_at self.old.head.parts part).kind) }
         ensures fits { IfOk result (λ body. IsTrue (sizes_fit (header_at self.old.head.parts part).method
-            (header_at self.old.head.parts part).channels (region_of (header_at self.old.head.parts part) index) body)) }
+            (header_at self.old.head.parts part).channels (region_of (header_at self.old.head.parts part) index) (data_of body))) }
         ensures same { IsSameStream S.means self.old self.new }
         ensures later { S.means.faults self.old.source ≤ S.means.faults self.new.source }
         ensures read { OwesFetch result (Rose (S.means.faults self.old.source) (S.means.faults self.new.source)) }

@@ -304,6 +304,7 @@ fn unpacked(alloc: Global, part: &Header, data: &[u8]) -> Result<Result<Vec<u8>,
     }
     match unpack_block(alloc, part.method(), &shape, body, Vec::new(alloc)) {
         Ok(Block::Flat(raw)) => Ok(Ok(raw)),
+        Ok(Block::Deep(_)) => Err("deep content".into()),
         Err(Refusal::Fault(fault)) => Ok(Err(fault)),
         Err(Refusal::NoMemory) => Err("no memory".into()),
     }
@@ -401,8 +402,10 @@ fn packed(alloc: Global, part: &Header, raw: &[u8]) -> Result<Option<Vec<u8>>, F
     if shape.raw_size() > 1 << 26 {
         return Err("too large a region".into());
     }
-    let Body::Flat(data) = pack_block(alloc, part.method(), &shape, &block)?;
-    Ok(Some(data))
+    match pack_block(alloc, part.method(), &shape, &block)? {
+        Body::Flat(data) => Ok(Some(data)),
+        Body::Deep(_) => Err("deep data".into()),
+    }
 }
 
 #[test]

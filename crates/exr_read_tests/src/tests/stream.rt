@@ -89,7 +89,7 @@ fn source_of(alloc: Global, bytes: Vec<u8>, fails: &[u64]) -> Result<MemSource, 
     Ok(MemSource::new(alloc, "a", bytes, Vec::new(alloc), fails)?)
 }
 
-/// What fetching a chunk answers; None where there is no such chunk, or memory runs out.
+/// What fetching a chunk answers; None where there is no such chunk that is not deep, or memory runs out.
 fn fetched(
     alloc: Global,
     stream: &mut Stream<Brand, MemSource>,
@@ -99,11 +99,12 @@ fn fetched(
     if part as usize >= stream.head().parts().len() {
         return None;
     }
-    if index >= stream.chunk_count(part) || stream.header(part).kind().is_deep() {
+    if index >= stream.chunk_count(part) {
         return None;
     }
     match stream.fetch(alloc, part, index) {
         Ok(Body::Flat(bytes)) => Some(Ok(bytes)),
+        Ok(Body::Deep(_)) => None,
         Err(Refusal::Fault(fault)) => Some(Err(fault)),
         Err(Refusal::NoMemory) => None,
     }

@@ -1,6 +1,7 @@
 -- The chunks of a round, one after the other.
 use Rattle.std.proofs.Common.{rules, ◌≡◌, ◌+◌, ◌<◌, ℕ, List, [], length, map, slice_index_or, Ok, sym, ap, subst, ◌∙◌, arith}
 use Rattle.std.proofs.lemmas.List.{length-map}
+use Rattle.exr_block.specs.Body.{flat_content}
 use Rattle.exr_chunks.specs.Region.{header_at}
 use Rattle.exr_reader.specs.Window.{target_of, ArePut}
 use Rattle.exr_reader.proofs.Filling.{ground, put_next}
@@ -24,7 +25,7 @@ loop-k-preserved g c =
       put = λ told first p.
           let is : raw ≡ slice_index_or (map (λ raw. raw.items) raws) k [] = c.as_slice.ensures.value ∙ item_at raws k c.index-raws-k.result lt c.index-raws-k.is in
           let size : k < length (map (λ raw. raw.items) raws) = let m = length-map raws (λ raw. raw.items) in omega (arith, lt, m) in
-          let chunk = c.requires.raws.bytes told k size ∙ ap (λ (r : List ℕ). Ok r) (sym is) in
+          let chunk = c.requires.raws.bytes told k size ∙ ap (λ (r : List ℕ). Ok (flat_content r)) (sym is) in
           let next : n + 1 ≡ c.args.from + (k + 1) = omega arith in
           subst (λ m. ArePut t chunks m first c.put_chunk.new.into) next
           (put_next t chunks n raw first c.loop-k.into c.put_chunk.new.into base there (c.requires.chunks n there) chunk c.put_chunk.ensures (c.loop-k.invariant.put told first p));

@@ -19,7 +19,7 @@ returns-in-Err-clause-cause g c =
     let i = slice_index c.args.chunks.now rank in
     let way = c.loop-rank.invariant in
     cause_by c.in-Err.cause _ (λ n fault. IsTrue means.tells → IsFaultFrom file c.args.part c.args.chunks.now c.args.from c.args.to n fault)
-    _ (Rose (means.faults s.source) (means.faults c.raw_data-raw.new.stream.source))
+    _ (Rose (means.faults s.source) (means.faults c.read_bytes-raw.new.stream.source))
     (λ n fault has told.
     fault_here (IsTrue means.tells) file c.args.part c.args.chunks.now c.args.from c.args.to rank i n (map (λ raw. raw.items) c.loop-rank.raws.items) fault
     told (let size = length-map c.loop-rank.raws.items (λ raw. raw.items) in let many = way.many in omega (arith, size, many)) c.loop-rank-test.true refl way.raws has.0 (sym (ap (λ (f : Opened). raw_of f c.args.part i) (file_same means s c.loop-rank.stream way.same told)) ∙ has.1 told))

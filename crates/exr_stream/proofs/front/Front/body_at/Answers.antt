@@ -1,18 +1,25 @@
--- What was read of the chunk is what the file has of it.
-use Rattle.std.proofs.Common.{◌≡◌, ◌+◌, min, length, take, drop, ap, subst, ◌∙◌, arith}
-use Rattle.std.proofs.lemmas.List.{length-drop}
-use Rattle.exr_stream.specs.Chunk.{data_in}
-use Rattle.exr_stream.specs.Stream.{Fetches}
-use Rattle.exr_stream.proofs.Whole.{data_of_piece}
+-- The data of a deep chunk, or of one that is not, is that of the chunk.
+use Rattle.std.proofs.Common.{drop}
+use Rattle.exr_deep.specs.Body.{body_of}
+use Rattle.exr_stream.proofs.Forms.{stored_deep, stored_flat, refused_deep, refused_flat}
 use Rattle.exr_stream.proofs.front.Front.body_at.Goals as goal
 
-pub returns-clause-chunk : goal.returns-clause-chunk
-returns-clause-chunk g c = λ told.
+pub returns-in-Ok-clause-chunk : goal.returns-in-Ok-clause-chunk
+returns-in-Ok-clause-chunk g c = λ told.
     let e = c.args.expected.now in
-    let content = g.S.Source.means.content c.args.source.now in
-    let rest = drop c.args.entry content in
-    let left : c.saturating_sub.result ≡ length rest = omega (arith, c.saturating_sub.ensures, c.requires.content told, length-drop c.args.entry content) in
-    let most : c.most-most.result ≡ min (length rest) (length e.fields.items + 4 + e.raw) =
-    c.most-most.ensures ∙ ap (λ n. min n (length e.fields.items + 4 + e.raw)) left in
-    let there = ap (take c.in_ok-count.count) c.as_slice-bytes.ensures.value ∙ c.in_ok-count.ensures.bytes told in
-    subst (Fetches c.body_in.result) (ap (data_in e.fields.items e.method e.raw) there ∙ data_of_piece e.fields.items e.method e.raw c.most-most.result rest most) c.body_in.ensures.chunk
+    stored_deep e.deep e.fields.items e.method e.raw (drop c.args.entry (g.S.Source.means.content c.args.source.now)) (body_of c.in-Ok.packed) c.if-expected.true (c.in-Ok.ensures.chunk told)
+
+pub returns-in-Err-clause-chunk : goal.returns-in-Err-clause-chunk
+returns-in-Err-clause-chunk g c = λ told.
+    let e = c.args.expected.now in
+    refused_deep e.deep e.fields.items e.method e.raw (drop c.args.entry (g.S.Source.means.content c.args.source.now)) c.in-Err.refusal c.if-expected.true (c.in-Err.ensures.chunk told)
+
+pub returns-in-Ok-flat_at-clause-chunk : goal.returns-in-Ok-flat_at-clause-chunk
+returns-in-Ok-flat_at-clause-chunk g c = λ told.
+    let e = c.args.expected.now in
+    stored_flat e.deep e.fields.items e.method e.raw (drop c.args.entry (g.S.Source.means.content c.args.source.now)) c.in-Ok-flat_at.bytes.items c.if-expected.false (c.in-Ok-flat_at.ensures.chunk told)
+
+pub returns-in-Err-flat_at-clause-chunk : goal.returns-in-Err-flat_at-clause-chunk
+returns-in-Err-flat_at-clause-chunk g c = λ told.
+    let e = c.args.expected.now in
+    refused_flat e.deep e.fields.items e.method e.raw (drop c.args.entry (g.S.Source.means.content c.args.source.now)) c.in-Err-flat_at.refusal c.if-expected.false (c.in-Err-flat_at.ensures.chunk told)

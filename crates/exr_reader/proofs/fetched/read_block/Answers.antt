@@ -1,6 +1,6 @@
 -- What was fetched is unpacked by the part's method, for the chunk's shape.
 use Rattle.std.proofs.Common.{◌≡◌, ℕ, IsTrue, Ok, Err, refl, ap, ◌∙◌}
-use Rattle.exr_block.specs.Body.{data_of}
+use Rattle.exr_block.specs.Body.{data_of, content_of}
 use Rattle.exr_block.specs.Content.{raw_of_body}
 use Rattle.exr_chunks.specs.Heads.{Header}
 use Rattle.exr_chunks.specs.Region.{header_at, region_of}
@@ -12,21 +12,25 @@ use Rattle.exr_reader.specs.Sample.{raw_of}
 use Rattle.exr_base.specs.declared.refusal.Refusal.TheVariants as refused
 use Rattle.exr_stream.specs.declared.fault.FetchFault.TheVariants as fetch
 use Rattle.exr_stream.specs.Chunk.{chunk_of}
-use Rattle.exr_reader.proofs.Contents.{raw_is, raw_fault, fetched_fault, failed_read, if_err}
+use Rattle.exr_reader.proofs.Contents.{raw_is, data_if, raw_fault, fetched_fault, failed_read, if_err}
 use Rattle.exr_reader.proofs.InRounds.{cause_by}
 use Rattle.exr_reader.proofs.Meeting.{if_ok}
-use Rattle.exr_reader.proofs.fetched.raw_data.Goals as goal
+use Rattle.exr_reader.proofs.fetched.read_block.Goals as goal
 
-pub returns-in-Ok-clause-bytes : goal.returns-in-Ok-clause-bytes
-returns-in-Ok-clause-bytes g c = λ told.
+pub returns-in-Ok-clause-content : goal.returns-in-Ok-clause-content
+returns-in-Ok-clause-content g c = λ told.
     let s = c.args.stream.now in
     let shape = c.shape-shape.result in
     let method = c.method-method.ensures ∙ ap (λ (h : Header). h.method) c.header.ensures.exact in
     let channels = c.shape-shape.ensures.channels ∙ ap (λ (head : Head). (header_at head.parts c.args.part).channels) c.in-Ok.ensures.same.head in
     let region = c.shape-shape.ensures.region ∙ ap (λ (head : Head). region_of (header_at head.parts c.args.part) c.args.index) c.in-Ok.ensures.same.head in
     if_ok c.unpacked.result _ _
-    (λ raw is. raw_is (file_of g.S.Source.means s) c.args.part c.args.index (data_of c.in-Ok.body) c.method-method.result shape.channels.now shape.region (Ok raw.items) (c.in-Ok.ensures.chunk told) method channels region is)
-    c.unpacked.ensures.raw
+    (λ block is. raw_is (file_of g.S.Source.means s) c.args.part c.args.index (data_of c.in-Ok.body) c.method-method.result shape.channels.now shape.region (Ok (content_of block)) (c.in-Ok.ensures.chunk told) method channels region is)
+    c.unpacked.ensures.content
+
+pub returns-in-Ok-clause-data : goal.returns-in-Ok-clause-data
+returns-in-Ok-clause-data g c = λ told.
+    data_if (file_of g.S.Source.means c.args.stream.now) c.args.part c.args.index c.unpacked.result (returns-in-Ok-clause-content g c told)
 
 pub returns-in-Ok-clause-cause : goal.returns-in-Ok-clause-cause
 returns-in-Ok-clause-cause g c =
