@@ -3,3 +3,4 @@ pub mod Filling
 pub mod InRounds
 pub mod Meeting
 pub mod Same
+pub mod Soundness

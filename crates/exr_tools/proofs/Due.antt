@@ -1,5 +1,5 @@
 -- The input of a command calls for one stop at the most, and for none where its samples can be read.
-use Rattle.std.proofs.Common.{◌≡◌, ◌⊎◌, inl, inr, ℕ, List, slice_index, Result, Ok, Err, OnOk, IfErr, sym, ap, subst, ◌∙◌, arith}
+use Rattle.std.proofs.Common.{◌≡◌, inl, inr, ℕ, List, slice_index, Result, Ok, Err, sym, ap, subst, ◌∙◌, arith}
 use Rattle.std.proofs.lemmas.Bool.{cases_lt}
 use Rattle.exr_attributes.specs.declared.fault.HeaderFault.{HeaderFault}
 use Rattle.exr_block.specs.declared.fault.ChunkFault.{ChunkFault}
@@ -18,29 +18,8 @@ use Rattle.exr_tools.specs.declared.stop.Stop.{Stop}
 use Rattle.exr_tools.specs.declared.stop.Stop.TheVariants.{NoMemory, Words, File, Read, Write, Request, Form}
 use Rattle.exr_tools.specs.declared.stop.FileFault.TheVariants as fault
 use Rattle.exr_tools.specs.Stops.{stop_asked}
-use Rattle.exr_tools.specs.Run.{with_head, chunks_asked, IsReadable, IsRefusedBy, HasFirstFault, IsUnread, HasReason, OwesRise, StopsOr}
-
--- ---- heads and requests
-
--- a result is one thing
-the_value : {A E : Type 0} → Result A E → A → A
-the_value (Ok x) other = x
-the_value (Err e) other = other
-
-the_error : {A E : Type 0} → Result A E → E → E
-the_error (Ok x) other = other
-the_error (Err e) other = e
-
-pub one_value : {A E : Type 0} (r : Result A E) (x y : A) → r ≡ Ok x → r ≡ Ok y → x ≡ y
-unfolding the_value
-one_value r x y first second = ap (λ z. the_value z x) (sym first ∙ second)
-
-one_error : {A E : Type 0} (r : Result A E) (x y : E) → r ≡ Err x → r ≡ Err y → x ≡ y
-unfolding the_error
-one_error r x y first second = ap (λ z. the_error z x) (sym first ∙ second)
-
-not_both : {A E : Type 0} (r : Result A E) (x : A) (e : E) → r ≡ Ok x → r ≡ Err e → ⊥
-not_both r x e ok err = absurd (cc (sym ok ∙ err))
+use Rattle.exr_tools.specs.Run.{with_head, chunks_asked, IsReadable, IsRefusedBy, HasFirstFault, IsUnread}
+use Rattle.exr_tools.proofs.Answered.{one_value, one_error, not_both}
 
 -- ---- what is granted
 
@@ -144,46 +123,3 @@ read_not_seen i file d stop it (broken n f is first) =
 
 pub read_not_due : (i : ℕ) (file : List ℕ) (d : Demand) (stop : Stop) → IsReadable file d → IsUnread stop i file d → ⊥
 read_not_due i file d stop it due = read_not_seen i file d stop it (seen i file d stop due)
-
--- ---- answers
-
--- a stop with its reason, where the input calls for another
-stops_by : (i : ℕ) (file : List ℕ) (d : Demand) (stop due : Stop) (read write : Type 0) → HasReason stop (λ _. ⊥) (λ x. IsUnread x i file d) read write → IsUnread due i file d → (stop ≡ due) ⊎ OwesRise stop read write
-stops_by i file d NoMemory due read write reason is = inr tt
-stops_by i file d (Words position) due read write reason is = absurd reason
-stops_by i file d (File n f) due read write reason is = inl (due_alone i file d (File n f) due reason is)
-stops_by i file d Read due read write reason is = inr (inl reason)
-stops_by i file d Write due read write reason is = inr (inr reason)
-stops_by i file d (Request r) due read write reason is = inl (due_alone i file d (Request r) due reason is)
-stops_by i file d Form due read write reason is = inl (due_alone i file d Form due reason is)
-
-owes_by : (i : ℕ) (file : List ℕ) (d : Demand) (stop : Stop) (read write : Type 0) → HasReason stop (λ _. ⊥) (λ x. IsUnread x i file d) read write → IsReadable file d → OwesRise stop read write
-owes_by i file d NoMemory read write reason has = tt
-owes_by i file d (Words position) read write reason has = absurd reason
-owes_by i file d (File n f) read write reason has = absurd (read_not_due i file d (File n f) has reason)
-owes_by i file d Read read write reason has = inl reason
-owes_by i file d Write read write reason has = inr reason
-owes_by i file d (Request r) read write reason has = absurd (read_not_due i file d (Request r) has reason)
-owes_by i file d Form read write reason has = absurd (read_not_due i file d Form has reason)
-
--- what holds where the content is told
-told_reason : (i : ℕ) (file : List ℕ) (d : Demand) (stop : Stop) (T read write : Type 0) → T → HasReason stop (λ _. ⊥) (λ x. T → IsUnread x i file d) read write → HasReason stop (λ _. ⊥) (λ x. IsUnread x i file d) read write
-told_reason i file d NoMemory T read write told reason = tt
-told_reason i file d (Words position) T read write told reason = reason
-told_reason i file d (File n f) T read write told reason = reason told
-told_reason i file d Read T read write told reason = reason
-told_reason i file d Write T read write told reason = reason
-told_reason i file d (Request r) T read write told reason = reason told
-told_reason i file d Form T read write told reason = reason told
-
--- the stop that the input calls for, or another that owes a rise
-pub stops_or : (r : Result (Unit {0}) Stop) (i : ℕ) (file : List ℕ) (d : Demand) (due : Stop) (T done read write : Type 0) → T → (done → IsReadable file d) → OnOk r done
-    → IfErr r (λ stop. HasReason stop (λ _. ⊥) (λ x. T → IsUnread x i file d) read write) → IsUnread due i file d → StopsOr r due read write
-stops_or (Ok x) i file d due T done read write told part_of ok reason is = read_not_due i file d due (part_of ok) is
-stops_or (Err stop) i file d due T done read write told part_of ok reason is = stops_by i file d stop due read write (told_reason i file d stop T read write told reason) is
-
--- and where it calls for none, a rise
-pub owes_or : (r : Result (Unit {0}) Stop) (i : ℕ) (file : List ℕ) (d : Demand) (T read write : Type 0) → T → IfErr r (λ stop. HasReason stop (λ _. ⊥) (λ x. T → IsUnread x i file d) read write)
-    → IsReadable file d → IfErr r (λ stop. OwesRise stop read write)
-owes_or (Ok x) i file d T read write told reason has = tt
-owes_or (Err stop) i file d T read write told reason has = owes_by i file d stop read write (told_reason i file d stop T read write told reason) has

@@ -1,3 +1,5 @@
+pub mod Answered
+pub mod Broken
 pub mod Due
 pub mod Granting
 pub mod Left

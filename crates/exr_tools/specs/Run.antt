@@ -4,7 +4,7 @@ use Rattle.exr_header.specs.Head.{Head, head_of}
 use Rattle.exr_header.specs.Show.{head_text}
 use Rattle.exr_asked.specs.Choices.{Choices}
 use Rattle.exr_asked.specs.Demand.{Demand, demand_in}
-use Rattle.exr_words.specs.Command.{Command, header, extract, first_of}
+use Rattle.exr_words.specs.Command.{Command, header, check, extract, first_of}
 use Rattle.exr_words.specs.Words.{command_of}
 use Rattle.exr_tools.specs.declared.stop.Stop.{Stop}
 use Rattle.exr_tools.specs.declared.stop.Stop.TheVariants.{NoMemory, Words, File, Read, Write, Request, Form}
@@ -18,9 +18,11 @@ use Rattle.exr_request.specs.declared.fault.RequestStop.{RequestStop}
 use Rattle.exr_request.specs.Request.{IsGranted, IsRefused}
 use Rattle.exr_stream.specs.Chunk.{Opened}
 use Rattle.exr_reader.specs.Window.{Target, IsFilled, HaveDataOf, IsFirstFaultOf}
+use Rattle.exr_reader.specs.Check.{unread_counts, IsSoundFile, IsFirstUnsound}
 use Rattle.exr_tools.specs.Output.{Output, text_alone, buffer_under, Does}
 use Rattle.exr_tools.specs.Scene.{Told, Scene}
 use Rattle.exr_tools.specs.Stops.{stop_asked}
+use Rattle.exr_tools.specs.Texts.{report_of}
 
 -- ---- what is asked of a file
 
@@ -49,6 +51,18 @@ pub record IsTextOf (file text : List ℕ) : Type 0 where
   pub found : head_of file ≡ Ok (head, bytes)
   pub shown : text ≡ head_text head
 
+-- a file with a head, whose chunks are all sound
+pub record IsWhole (file : List ℕ) : Type 0 where
+  pub head : Head
+  pub bytes : ℕ
+  pub found : head_of file ≡ Ok (head, bytes)
+  pub sound : IsSoundFile (with_head file head bytes)
+
+-- the report on such a file
+pub record IsReport (file report : List ℕ) : Type 0 where
+  pub of : IsWhole file
+  pub shown : report ≡ report_of of.head.parts (unread_counts (with_head file of.head of.bytes))
+
 -- the head of a file grants what is asked for, and each chunk that its window meets has data
 pub record IsReadable (file : List ℕ) (d : Demand) : Type 0 where
   pub head : Head
@@ -71,6 +85,12 @@ pub record GivesText (file : List ℕ) (o : Output) : Type 0 where
   pub shown : IsTextOf file text
   pub is : o ≡ text_alone text
 
+-- the report on a file, and no file
+pub record GivesReport (file : List ℕ) (o : Output) : Type 0 where
+  pub report : List ℕ
+  pub reported : IsReport file report
+  pub is : o ≡ text_alone report
+
 -- the buffer of what is asked of a file, under a name, and its line
 pub record GivesBuffer (file : List ℕ) (d : Demand) (byte : ℕ) (name : List ℕ) (o : Output) : Type 0 where
   pub buffer : List ℕ
@@ -80,6 +100,7 @@ pub record GivesBuffer (file : List ℕ) (d : Demand) (byte : ℕ) (name : List 
 -- what a command gives, command by command
 abbrev pub Gives : Command → (List ℕ → List ℕ) → Output → Type 0
 Gives (header inputs) bytes_of = GivesText (bytes_of (first_of inputs))
+Gives (check inputs workers) bytes_of = GivesReport (bytes_of (first_of inputs))
 Gives (extract inputs output choices) bytes_of =
     GivesBuffer (bytes_of (first_of inputs)) (demand_in choices) (byte_in choices) output
 
@@ -95,6 +116,19 @@ pub record Obeys (t : Told) (bytes_of : List ℕ → List ℕ) (words : List (Li
 abbrev pub IsFaulty : Stop → ℕ → List ℕ → Type 0
 IsFaulty (File number (fault.Head f)) input file = (number ≡ input) × (head_of file ≡ Err f)
 IsFaulty stop input file = ⊥
+
+-- the first chunk of a file that is not sound
+pub record HasFirstUnsound (file : List ℕ) (part index : ℕ) (f : ChunkFault) : Type 0 where
+  pub head : Head
+  pub bytes : ℕ
+  pub found : head_of file ≡ Ok (head, bytes)
+  pub first : IsFirstUnsound (with_head file head bytes) part index f
+
+-- the stop is that of a fault of such a head, or of the first chunk that is not sound
+abbrev pub IsBroken : Stop → ℕ → List ℕ → Type 0
+IsBroken (File number (fault.Head f)) input file = (number ≡ input) × (head_of file ≡ Err f)
+IsBroken (File number (fault.Chunk p i f)) input file = (number ≡ input) × HasFirstUnsound file p i f
+IsBroken stop input file = ⊥
 
 -- the head of a file does not grant what is asked for
 pub record IsRefusedBy (stop : Stop) (file : List ℕ) (d : Demand) : Type 0 where
@@ -127,11 +161,13 @@ IsUnread stop input file d = ⊥
 -- the stop that the input of a command calls for
 abbrev pub IsDue : Command → (List ℕ → List ℕ) → Stop → Type 0
 IsDue (header inputs) bytes_of stop = IsFaulty stop 0 (bytes_of (first_of inputs))
+IsDue (check inputs workers) bytes_of stop = IsBroken stop 0 (bytes_of (first_of inputs))
 IsDue (extract inputs output choices) bytes_of stop = IsUnread stop 0 (bytes_of (first_of inputs)) (demand_in choices)
 
 -- the input calls for no stop
 abbrev pub IsSound : Command → (List ℕ → List ℕ) → Type 0
 IsSound (header inputs) bytes_of = (text : List ℕ) × IsTextOf (bytes_of (first_of inputs)) text
+IsSound (check inputs workers) bytes_of = IsWhole (bytes_of (first_of inputs))
 IsSound (extract inputs output choices) bytes_of = IsReadable (bytes_of (first_of inputs)) (demand_in choices)
 
 -- the fact that goes with each stop; want of memory needs none
@@ -175,14 +211,17 @@ ByCommand words fact other = MatchResult (command_of words) fact (λ _. other)
 -- the names of inputs that a command opens
 abbrev pub Opens : Command → List (List ℕ) → List (List ℕ) → Type 0
 Opens (header inputs) old new = AsksAtMost old new (first_of inputs)
+Opens (check inputs workers) old new = AsksAtMost old new (first_of inputs)
 Opens (extract inputs output choices) old new = AsksAtMost old new (first_of inputs)
 
 -- the names that a command creates
 abbrev pub Creates : Command → List (List ℕ) → List (List ℕ) → Type 0
 Creates (header inputs) old new = new ≡ old
+Creates (check inputs workers) old new = new ≡ old
 Creates (extract inputs output choices) old new = AsksAtMost old new output
 
 -- the pairs that a command keeps
 abbrev pub Keeps : Command → List (List ℕ × List ℕ) → List (List ℕ × List ℕ) → Type 0
 Keeps (header inputs) old new = new ≡ old
+Keeps (check inputs workers) old new = new ≡ old
 Keeps (extract inputs output choices) old new = KeepsAtMost old new output

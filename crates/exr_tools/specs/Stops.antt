@@ -12,6 +12,8 @@ use Rattle.exr_tools.specs.declared.stop.Stop.TheVariants.{NoMemory, Words, File
 use Rattle.exr_tools.specs.declared.stop.FileFault.TheVariants.{Head, Chunk}
 use Rattle.exr_reader.specs.declared.cause.ReadCause.{ReadCause}
 use Rattle.exr_reader.specs.declared.cause.ReadCause.TheVariants as cause
+use Rattle.exr_reader.specs.declared.sound.CheckStop.{CheckStop}
+use Rattle.exr_reader.specs.declared.sound.CheckStop.TheVariants as check
 
 abbrev pub stop_of_words : Refusal WordFault → Stop
 stop_of_words (refusal.Fault f) = Words f.position
@@ -37,3 +39,9 @@ abbrev pub stop_of_reading : ℕ → ℕ → ReadCause → Stop
 stop_of_reading input part cause.NoMemory = NoMemory
 stop_of_reading input part cause.Read = Read
 stop_of_reading input part (cause.Chunk index f) = File input (Chunk part index f)
+
+-- of a test of such an input
+abbrev pub stop_of_check : ℕ → CheckStop → Stop
+stop_of_check input check.NoMemory = NoMemory
+stop_of_check input check.Read = Read
+stop_of_check input (check.Chunk part index f) = File input (Chunk part index f)

@@ -1,5 +1,8 @@
 -- What the program prints, and the status that it ends with.
-use Rattle.std.specs.Prelude.{ℕ, List, [], ◌∷◌, ◌++◌, codes, decimal}
+use Rattle.std.specs.Prelude.{ℕ, List, [], ◌∷◌, ◌++◌, codes, decimal, length, slice_index}
+use Rattle.std.specs.List.{flat_map, range_with_len}
+use Rattle.exr_chunks.specs.Heads.{Header, chunk_count_of}
+use Rattle.exr_chunks.specs.Region.{header_at}
 use Rattle.exr_attributes.specs.Fault.{number_of as head_number_of}
 use Rattle.exr_block.specs.Fault.{number_of as chunk_number_of}
 use Rattle.exr_request.specs.Fault.{request_number_of}
@@ -11,6 +14,20 @@ use Rattle.exr_tools.specs.declared.stop.FileFault.TheVariants.{Head, Chunk}
 -- the line that an extraction of so many bytes prints
 abbrev pub extract_line : ℕ → List ℕ
 extract_line count = codes "extract bytes " ++ decimal count ++ 10 ∷ []
+
+-- the line that a test prints for a part of so many chunks, of which so many are unread
+abbrev pub part_line : ℕ → ℕ → ℕ → List ℕ
+part_line part chunks unread =
+    codes "part " ++ (decimal part ++ (codes " chunks " ++ (decimal chunks ++ (codes " unread " ++ (decimal unread ++ 10 ∷ [])))))
+
+-- the line of a part of a file
+abbrev pub line_of_part : List Header → List ℕ → ℕ → List ℕ
+line_of_part parts unread part = part_line part (chunk_count_of (header_at parts part)) (slice_index unread part)
+
+-- the report on all parts of a file
+unfoldable pub report_of : List Header → List ℕ → List ℕ
+report_of parts unread =
+    flat_map (line_of_part parts unread) (range_with_len 0 (length parts)) ++ codes "ok" ++ 10 ∷ []
 
 -- the status of a stop
 abbrev pub status_of : Stop → ℕ

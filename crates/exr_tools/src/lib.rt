@@ -1,6 +1,7 @@
 //! The commands of `exr` over any files, any printer and any gate.
 #![tactic(auto)]
 
+mod check;
 mod extract;
 mod header;
 mod print;

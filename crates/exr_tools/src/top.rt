@@ -9,15 +9,18 @@ ghost use Rattle.exr_tools.specs.Output.{IsUntouched, Leaves};
 ghost use Rattle.exr_tools.specs.Run.{Obeys, Gives, IsDue, IsSound, HasReason, OwesRise, StopsOr, ByCommand, Opens, Creates, Keeps};
 ghost use Rattle.exr_tools.specs.Scene.{told_of, scene_of};
 
+use crate::check::check;
 use crate::extract::{Extraction, extract};
 use crate::header::header;
 use crate::stop::Stop;
 use exr_outside::{Files, Gate, Printer, World};
+use exr_reader::Work;
 use exr_words::{Order, read_words};
 use std::alloc::Global;
 use std::thread::Threads;
 
-/// Does what the words say: `header in=NAME`, or `extract in=NAME out=NAME` with any of the keys `part`, `window`, `layout`,
+/// Does what the words say: `header in=NAME`, or `check in=NAME` that may have the key `workers`, or `extract in=NAME
+/// out=NAME` with any of the keys `part`, `window`, `layout`,
 /// `channels`, `pad`, `fill`, `byte` and `workers` (see `exr_words::read_words`).
 ///
 /// Each file that is opened or created is given back before the call returns. Nothing is printed before all else
@@ -33,7 +36,8 @@ pub fn run<R: Threads + Sync, W: World, F: Files<W>, O: Printer, G: Gate>(
     requires { length words.now < 2 ^ 32 }
 
     // Where the answer is Ok, the words have a command, and what it gives was done: for `extract` just the buffer was written
-    // whose samples the file has, and just its line was printed; for `header` just the text of the file's head was printed.
+    // whose samples the file has, and just its line was printed; for `header` just the text of the file's head was printed, and
+    // for `check` just the report on all its chunks, none of which has a fault but that its method is not read.
     ensures obeys { OnOk result (Obeys (told_of F.In.means F.means F.Out.means O.means) W.bytes_of (texts_of words.now)
         (scene_of F.means O.means files.old out.old) (scene_of F.means O.means files.new out.new)) }
 
@@ -82,6 +86,14 @@ pub fn run<R: Threads + Sync, W: World, F: Files<W>, O: Printer, G: Gate>(
 {
     match read_words(alloc, words)? {
         Order::Header { inputs } => header::<W, F, O>(alloc, files, out, inputs.first(), 0),
+        Order::Check { inputs, workers } => {
+            let workers = workers.unwrap_or(1);
+            let work = Work {
+                workers,
+                round: workers,
+            };
+            check::<R, W, F, O>(rt, alloc, files, out, inputs.first(), 0, work)
+        }
         Order::Extract {
             inputs,
             output,

@@ -12,12 +12,12 @@ use Rattle.exr_asked.specs.declared.choices.Wanted.{Wanted}
 use Rattle.exr_asked.specs.Choices.{Choices, IsNear, AreNear, AreWithin}
 use Rattle.exr_words.specs.declared.order.WordFault.{WordFault}
 use Rattle.exr_words.specs.declared.names.Verb.{Verb}
-use Rattle.exr_words.specs.declared.names.Verb.TheVariants.{Header, Extract}
+use Rattle.exr_words.specs.declared.names.Verb.TheVariants.{Header, Check, Extract}
 use Rattle.exr_words.specs.declared.names.Key.{Key}
 use Rattle.exr_words.specs.declared.names.Key.TheVariants as keys
 use Rattle.exr_words.specs.declared.names.Choice.{Choice}
 use Rattle.exr_words.specs.declared.names.Choice.TheVariants.{Part, Window, Layout, Channels, Pad, Fill, Byte, Workers}
-use Rattle.exr_words.specs.Command.{Command, header, extract, some_names, command_in}
+use Rattle.exr_words.specs.Command.{Command, header, check, extract, some_names, command_in}
 use Rattle.exr_words.specs.Names.{key_of, takes, repeats}
 use Rattle.exr_words.specs.Number.{number_of, number_within}
 use Rattle.exr_words.specs.Parts.{around, all_of}
@@ -154,12 +154,17 @@ header_within : (o : Option (List (List ℕ))) (command : Command) → option_ma
 header_within None command e = cc
 header_within (Some inputs) command e = subst IsWithin (same_Some (header inputs) command e) tt
 
+check_within : (o : Option (List (List ℕ))) (workers : Option ℕ) (command : Command) → option_map (λ inputs. check inputs workers) o ≡ Some command → IfSome workers (λ n. (1 ≤ n) × (n ≤ 16)) → IsWithin command
+check_within None workers command e h = cc
+check_within (Some inputs) workers command e h = subst IsWithin (same_Some (check inputs workers) command e) h
+
 extract_within : (o : Option (List ℕ)) (inputs : List (List ℕ)) (c : Choices) (command : Command) → option_map (λ output. extract inputs output c) o ≡ Some command → AreWithin c → IsWithin command
 extract_within None inputs c command e h = cc
 extract_within (Some output) inputs c command e h = subst IsWithin (same_Some (extract inputs output c) command e) h
 
 command_within : (verb : Verb) (f : Fields) (command : Command) → command_with verb f ≡ Some command → AreWithin f.choices → IsWithin command
 command_within Header f command e h = header_within (some_names f.inputs) command e
+command_within Check f command e h = check_within (some_names f.inputs) f.choices.workers command e h.workers
 command_within Extract f command e h =
     option_and_then_some _ (some_names f.inputs) command e (λ inputs e0 e1. extract_within f.output inputs f.choices command e1 h)
 

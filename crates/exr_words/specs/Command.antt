@@ -5,10 +5,11 @@ use Rattle.exr_asked.specs.Choices.{choices_in}
 use Rattle.exr_words.specs.declared.order.Order.{Order}
 use Rattle.exr_words.specs.declared.order.Order.TheVariants as order
 
--- the text of a file's head; the samples of a part of a file, written into another. Files are named by texts; the first
--- list has the inputs
+-- the text of a file's head; a test of all chunks of a file, with as many threads as are given; the samples of a part of a
+-- file, written into another. Files are named by texts; the first list has the inputs
 pub data Command : Type 0 where
   header : List (List ℕ) → Command
+  check : List (List ℕ) → Option ℕ → Command
   extract : List (List ℕ) → List ℕ → Choices → Command
 
 -- the first of some names
@@ -24,4 +25,5 @@ some_names (name ∷ names) = Some (name ∷ names)
 -- what an order asks for
 abbrev pub command_in : Order → Command
 command_in (order.Header inputs) = header inputs
+command_in (order.Check inputs workers) = check inputs workers
 command_in (order.Extract inputs output choices) = extract inputs (string_bytes output) (choices_in choices)

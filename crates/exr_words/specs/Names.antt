@@ -1,7 +1,7 @@
 -- The commands and the keys by their names, which command takes which key, and how often.
 use Rattle.std.specs.Prelude.{ℕ, Bool, true, false, bytes_eq, List, codes, Option, Some, None, option_map, if◌then◌else◌}
 use Rattle.exr_words.specs.declared.names.Verb.{Verb}
-use Rattle.exr_words.specs.declared.names.Verb.TheVariants.{Header, Extract}
+use Rattle.exr_words.specs.declared.names.Verb.TheVariants.{Header, Check, Extract}
 use Rattle.exr_words.specs.declared.names.Key.{Key}
 use Rattle.exr_words.specs.declared.names.Key.TheVariants as key
 use Rattle.exr_words.specs.declared.names.Choice.{Choice}
@@ -11,7 +11,8 @@ use Rattle.exr_words.specs.declared.names.Choice.TheVariants.{Part, Window, Layo
 abbrev pub verb_of : List ℕ → Option Verb
 verb_of name =
     if bytes_eq name (codes "header") then Some Header else (
-    if bytes_eq name (codes "extract") then Some Extract else None)
+    if bytes_eq name (codes "check") then Some Check else (
+    if bytes_eq name (codes "extract") then Some Extract else None))
 
 -- the key with a name that chooses samples
 abbrev pub choice_of : List ℕ → Option Choice
@@ -35,9 +36,13 @@ key_of name =
 abbrev pub takes : Verb → Key → Bool
 takes Header key.In = true
 takes Header key = false
+takes Check key.In = true
+takes Check (key.Choice Workers) = true
+takes Check key = false
 takes Extract key = true
 
 -- those that it may have more than once
 abbrev pub repeats : Verb → Key → Bool
 repeats Header key = false
+repeats Check key = false
 repeats Extract key = false

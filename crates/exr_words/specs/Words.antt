@@ -5,8 +5,8 @@ use Rattle.std.specs.declared.alloc.Global.{Global}
 use Rattle.exr_base.specs.Refusal.{◌>>=◌}
 use Rattle.exr_words.specs.declared.order.WordFault.{WordFault}
 use Rattle.exr_words.specs.declared.names.Verb.{Verb}
-use Rattle.exr_words.specs.declared.names.Verb.TheVariants.{Header, Extract}
-use Rattle.exr_words.specs.Command.{Command, header, extract, some_names}
+use Rattle.exr_words.specs.declared.names.Verb.TheVariants.{Header, Check, Extract}
+use Rattle.exr_words.specs.Command.{Command, header, check, extract, some_names}
 use Rattle.exr_words.specs.Names.{verb_of, key_of, takes}
 use Rattle.exr_words.specs.Parts.{around}
 use Rattle.exr_words.specs.Fields.{Fields, nothing, put}
@@ -27,6 +27,7 @@ fields_with verb f word = option_and_then
 -- what a command asks for with its fields, where it has all that it needs
 abbrev pub command_with : Verb → Fields → Option Command
 command_with Header f = option_map header (some_names f.inputs)
+command_with Check f = option_map (λ inputs. check inputs f.choices.workers) (some_names f.inputs)
 command_with Extract f = option_and_then
     (λ inputs. option_map (λ output. extract inputs output f.choices) f.output)
     (some_names f.inputs)

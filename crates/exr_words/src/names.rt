@@ -7,6 +7,7 @@ ghost use Rattle.exr_words.specs.Names.{verb_of, key_of, choice_of, takes, repea
 #[derive(Clone, Copy)]
 pub(crate) enum Verb {
     Header,
+    Check,
     Extract,
 }
 
@@ -37,6 +38,9 @@ pub(crate) fn verb_of(name: &str) -> Option<Verb>
 {
     if name == "header" {
         return Some(Verb::Header);
+    }
+    if name == "check" {
+        return Some(Verb::Check);
     }
     (name == "extract").then_some(Verb::Extract)
 }
@@ -88,6 +92,7 @@ pub(crate) fn takes(verb: Verb, key: Key) -> bool
 {
     match verb {
         Verb::Header => matches!(key, Key::In),
+        Verb::Check => matches!(key, Key::In | Key::Choice(Choice::Workers)),
         Verb::Extract => true,
     }
 }
@@ -97,6 +102,6 @@ pub(crate) fn repeats(verb: Verb, key: Key) -> bool
     ensures { result ≡ repeats verb key }
 {
     match (verb, key) {
-        (Verb::Header | Verb::Extract, _) => false,
+        (Verb::Header | Verb::Check | Verb::Extract, _) => false,
     }
 }

@@ -57,6 +57,12 @@ pub enum Order {
     Header {
         inputs: Inputs,
     },
+    /// Test all chunks of a file.
+    Check {
+        inputs: Inputs,
+        /// How many threads unpack chunks, 1 to 16, where it was given.
+        workers: Option<u32>,
+    },
     /// Write the samples of a part of a file into another file.
     Extract {
         inputs: Inputs,

@@ -16,12 +16,12 @@ use std::alloc::Global;
 
 /// Parses the words of a command line; the fault is the position of the first invalid word.
 ///
-/// The first word is the command, each other one a key, `=` and a value that is not empty: `header in=NAME`, or
-/// `extract in=NAME out=NAME`, which may have the keys `part=NUMBER` below 2^32, `window=X0,Y0,X1,Y1` of numbers up to
-/// 2^30 that may have a `-`, `layout=planar|lines|pixels`, `channels=NAME,NAME:uint|half|float` of 1 to 1,024 names,
-/// `pad=NUMBER` up to 65,535, `fill=NUMBER` below 2^32, `byte=NUMBER` up to 255 and `workers=NUMBER` from 1 to 16. The
-/// keys are in any order, each at most once. A number has 1 to 20 digits; the name of a channel has 1 to 255 bytes, none of
-/// them a comma, a colon or zero.
+/// The first word is the command, each other one a key, `=` and a value that is not empty: `header in=NAME`; or
+/// `check in=NAME`, which may have the key `workers=NUMBER` from 1 to 16; or `extract in=NAME out=NAME`, which may have that
+/// key too and `part=NUMBER` below 2^32, `window=X0,Y0,X1,Y1` of numbers up to 2^30 that may have a `-`,
+/// `layout=planar|lines|pixels`, `channels=NAME,NAME:uint|half|float` of 1 to 1,024 names, `pad=NUMBER` up to 65,535,
+/// `fill=NUMBER` below 2^32 and `byte=NUMBER` up to 255. The keys are in any order, each at most once. A number has 1 to 20
+/// digits; the name of a channel has 1 to 255 bytes, none of them a comma, a colon or zero.
 pub fn read_words(alloc: Global, words: &[String]) -> Result<Order, Refusal<WordFault>>
     requires { length words.now < 2 ^ 32 }
     ensures exact { Gives command_in result (command_of (texts_of words.now)) }
@@ -99,6 +99,10 @@ fn order(verb: Verb, fields: Fields) -> Option<Order>
     let inputs = Inputs::new(fields.inputs)?;
     Some(match verb {
         Verb::Header => Order::Header { inputs },
+        Verb::Check => Order::Check {
+            inputs,
+            workers: fields.choices.workers,
+        },
         Verb::Extract => Order::Extract {
             inputs,
             output: fields.output?,
