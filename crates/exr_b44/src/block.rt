@@ -1,6 +1,6 @@
 //! Packed data of a region, channel by channel, from raw data and back.
 
-ghost use Rattle.std.specs.Prelude.{◌≡◌, ℕ, ◌^◌, ◌<◌, ◌≤◌, ◌+◌, length, take, slice_index, IfOk, OnOk, IfSome, MatchOption, MatchResult, Ok, Err, All};
+ghost use Rattle.std.specs.Prelude.{◌≡◌, ℕ, ◌^◌, ◌<◌, ◌≤◌, ◌+◌, length, take, slice_index, IsTrue, IfOk, OnOk, IfSome, MatchOption, MatchResult, Ok, Err, All};
 ghost use Rattle.std.specs.List.{sum_by};
 ghost use Rattle.exr_base.specs.Refusal.{Gives};
 ghost use Rattle.exr_base.specs.Shape.{IsShape, raw_size_of};
@@ -29,8 +29,11 @@ pub fn unpack(alloc: Global, packed: &[u8], shape: &Shape) -> Result<Vec<u8>, Re
     ensures exact { Gives (λ raw. raw.items) result (b44_of shape.now.channels.now shape.now.region packed.now) }
     ensures size { IfOk result (λ raw. length raw.items ≡ raw_size_of shape.now.channels.now shape.now.region) }
 {
-    let mut raw = Vec::new(alloc);
-    unpack_into(alloc, packed, shape, &mut raw)?;
+    if is_short(packed, shape) {
+        return Err(Refusal::Fault(B44Fault::Short));
+    }
+    let mut raw = vec![in alloc; 0u8; shape.raw_size() as usize]?;
+    unpack_whole(alloc, packed, shape, &mut raw)?;
     Ok(raw)
 }
 
@@ -48,15 +51,41 @@ pub fn unpack_into(
     ensures exact { Gives (λ _. raw.new.items) result (b44_of shape.now.channels.now shape.now.region packed.now) }
     ensures size { OnOk result (length raw.new.items ≡ raw_size_of shape.now.channels.now shape.now.region) }
 {
-    if least_size(shape) > packed.len() as u64 {
+    if is_short(packed, shape) {
         return Err(Refusal::Fault(B44Fault::Short));
     }
-    let size = shape.raw_size() as usize;
-    raw.resize(size, 0)?;
+    raw.resize(shape.raw_size() as usize, 0)?;
+    unpack_whole(alloc, packed, shape, raw)
+}
+
+/// True where packed data is too short even for cells of three bytes.
+fn is_short(packed: &[u8], shape: &Shape) -> bool
+    requires shape { IsShape shape.now.channels.now shape.now.region }
+    requires plain { All IsPlain shape.now.channels.now }
+    requires size { raw_size_of shape.now.channels.now shape.now.region ≤ 2 ^ 26 }
+    ensures short { IsTrue result → b44_of shape.now.channels.now shape.now.region packed.now ≡ Err B44Fault.Short }
+{
+    least_size(shape) > packed.len() as u64
+}
+
+/// The raw data of a region, over a slice of its length.
+fn unpack_whole(
+    alloc: Global,
+    packed: &[u8],
+    shape: &Shape,
+    raw: &mut [u8],
+) -> Result<(), Refusal<B44Fault>>
+    requires shape { IsShape shape.now.channels.now shape.now.region }
+    requires plain { All IsPlain shape.now.channels.now }
+    requires size { raw_size_of shape.now.channels.now shape.now.region ≤ 2 ^ 26 }
+    requires raw { length raw.old ≡ raw_size_of shape.now.channels.now shape.now.region }
+    ensures exact { Gives (λ _. raw.new) result (b44_of shape.now.channels.now shape.now.region packed.now) }
+    ensures size { length raw.new ≡ length raw.old }
+{
     let unpacked = match line_len(shape) {
         Some(line) => unpack_lines(packed, shape, line, raw),
         None => {
-            let mut planar = vec![in alloc; 0u8; size]?;
+            let mut planar = vec![in alloc; 0u8; raw.len()]?;
             unpack_planes(packed, shape, &mut planar, raw)
         }
     };

@@ -15,5 +15,5 @@ mod unpacking;
 pub use block::{DeepBlock, DeepPacked};
 pub use fault::DeepFault;
 pub use packing::pack_deep;
-pub use sizes::fits;
+pub use sizes::{fits, height_of, sample_bytes, width_of};
 pub use unpacking::unpack_deep;

@@ -12,8 +12,8 @@ use exr_base::{Box2i, Channel, Shape, span};
 /// The most bytes that a sample count table has, and that samples have (own).
 const LARGEST: usize = 1 << 26;
 
-/// The pixels of a row of a region.
-pub(crate) fn width_of(region: Box2i) -> usize
+/// The pixels of a row of a region (own).
+pub fn width_of(region: Box2i) -> usize
     requires { IsRegion region }
     ensures exact { result ≡ width_of region }
     ensures small { result ≤ 2 ^ 20 }
@@ -21,8 +21,8 @@ pub(crate) fn width_of(region: Box2i) -> usize
     span(region.x0, region.x1) as usize
 }
 
-/// The rows of a region.
-pub(crate) fn height_of(region: Box2i) -> usize
+/// The rows of a region (own).
+pub fn height_of(region: Box2i) -> usize
     requires { IsRegion region }
     ensures exact { result ≡ height_of region }
     ensures small { result ≤ 2 ^ 20 }
@@ -31,7 +31,9 @@ pub(crate) fn height_of(region: Box2i) -> usize
 }
 
 /// The bytes of one sample of each channel.
-pub(crate) fn sample_bytes(channels: &[Channel]) -> u64
+///
+/// File Layout, "Deep Data Blocks".
+pub fn sample_bytes(channels: &[Channel]) -> u64
     requires { length channels.now ≤ 1024 }
     ensures exact { result ≡ sample_bytes_of channels.now }
     ensures small { result ≤ 2 ^ 12 }

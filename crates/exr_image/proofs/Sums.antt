@@ -34,9 +34,6 @@ first_le counts a b h = let e = from_start counts a b h in let le = sum_by-take-
 
 -- ---- tallies
 
-pub no_pixels : (counts : List ℕ) → IsTally counts (record { pixels = 0; samples = 0 })
-no_pixels counts = record { within = omega arith; counted = refl; small = omega arith }
-
 pub passed : (counts : List ℕ) (tally : Tally) (to more : ℕ) → IsTally counts tally → tally.pixels ≤ to → to ≤ length counts → more ≡ samples_between counts tally.pixels to → more ≤ (to - tally.pixels) * 2 ^ 32
     → IsTally counts (record { pixels = to; samples = tally.samples + more })
 passed counts tally to more is forward within counted small = record {

@@ -9,10 +9,10 @@ ghost use Rattle.exr_image.specs.Image.{DeepPixels, AreCovering, AreFrom, IsImag
 
 use crate::chunk::DeepChunk;
 use crate::pieces::pieces_of;
-use crate::pixel::{height_of, width_of};
 use crate::planes::{counts_of, planes_of};
 use crate::tally::sum_of;
 use exr_base::{Box2i, Channel, NoMemory};
+use exr_deep::{height_of, width_of};
 use std::alloc::Global;
 
 /// The pixels of a window of a deep part (own).

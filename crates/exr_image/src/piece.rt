@@ -6,10 +6,11 @@ ghost use Rattle.exr_base.specs.Boxes.{IsWithin};
 ghost use Rattle.exr_image.specs.Pieces.{view_of, IsCounted, AreCounted, IsTally, AreTallies, IsPieceIn, IsPieceAt, place_of};
 
 use crate::chunk::DeepChunk;
-use crate::pixel::{Pixel, width_of};
+use crate::pixel::Pixel;
 use crate::sizes::Sizes;
 use crate::tally::Tally;
 use exr_base::Box2i;
+use exr_deep::width_of;
 
 /// Pixels of one row of a chunk, and how many samples of the chunk come before theirs.
 #[derive(Clone, Copy, Debug)]

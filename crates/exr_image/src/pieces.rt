@@ -7,9 +7,10 @@ ghost use Rattle.exr_image.specs.Pieces.{AreCounted, AreTallies, ArePieces};
 
 use crate::chunk::{DeepChunk, chunk_with};
 use crate::piece::{Piece, piece_at};
-use crate::pixel::{height_of, pixel_at, width_of};
+use crate::pixel::pixel_at;
 use crate::tally::{Tally, no_tallies};
 use exr_base::{Box2i, NoMemory};
+use exr_deep::{height_of, width_of};
 use std::alloc::Global;
 
 /// Adds the pieces of a row of the window, from left to right. The search for the chunk of the first one begins at `hint`;

@@ -5,7 +5,7 @@ ghost use Rattle.exr_base.specs.Boxes.{IsWithin};
 ghost use Rattle.exr_base.specs.Shape.{IsRegion, width_of, height_of};
 ghost use Rattle.exr_image.specs.Pieces.{has_pixel};
 
-use exr_base::{Box2i, is_side_inside, span};
+use exr_base::{Box2i, is_side_inside};
 
 /// Column x of line y.
 #[derive(Clone, Copy, Debug)]
@@ -72,24 +72,6 @@ fn place_after(from: i32, steps: usize) -> i32
     ensures { result ≡ from +ℤ pos steps }
 {
     (i64::from(from) + steps as i64) as i32
-}
-
-/// The columns of a box.
-pub(crate) fn width_of(region: Box2i) -> usize
-    requires { IsRegion region }
-    ensures exact { result ≡ width_of region }
-    ensures small { result ≤ 2 ^ 20 }
-{
-    span(region.x0, region.x1) as usize
-}
-
-/// The lines of a box.
-pub(crate) fn height_of(region: Box2i) -> usize
-    requires { IsRegion region }
-    ensures exact { result ≡ height_of region }
-    ensures small { result ≤ 2 ^ 20 }
-{
-    span(region.y0, region.y1) as usize
 }
 
 /// The pixel of a box that has `row` lines above it and `column` columns to its left.

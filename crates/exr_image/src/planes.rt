@@ -7,8 +7,9 @@ ghost use Rattle.exr_image.specs.Pieces.{counts_of, samples_of, HasCounts, HasSa
 
 use crate::chunk::DeepChunk;
 use crate::piece::Piece;
-use crate::sizes::{Sizes, sample_bytes};
+use crate::sizes::Sizes;
 use exr_base::{Channel, NoMemory};
+use exr_deep::sample_bytes;
 use std::alloc::Global;
 
 /// The counts of pieces that have so many pixels.
