@@ -21,6 +21,9 @@ pub struct Asked {
     pub pad: u32,
     /// The bits of the samples of channels that the part does not have.
     pub fill: u32,
+    /// Whether a choice was given that a deep part does not take: the layout, the channels, the padding, the fill or what the
+    /// buffer begins as.
+    pub arranged: bool,
 }
 
 impl Asked {
@@ -31,6 +34,11 @@ impl Asked {
         // Choices within their limits ask for no more than a request takes.
         ensures modest { AreWithin (choices_in choices) → IsModest (demand_of result) }
     {
+        let arranged = choices.layout.is_some()
+            || choices.channels.is_some()
+            || choices.pad.is_some()
+            || choices.fill.is_some()
+            || choices.byte.is_some();
         Asked {
             part: choices.part.unwrap_or(0),
             window: choices.window,
@@ -38,6 +46,7 @@ impl Asked {
             channels: choices.channels,
             pad: choices.pad.unwrap_or(0),
             fill: choices.fill.unwrap_or(0),
+            arranged,
         }
     }
 }

@@ -1,7 +1,9 @@
-//! Samples of a file, read chunk by chunk from a stream: into the buffer of a layout. `check` tests all chunks.
+//! Samples of a file, read chunk by chunk from a stream: those of a flat part into the buffer of a layout, those of a deep
+//! part as an image. `check` tests all chunks.
 #![tactic(auto)]
 
 mod cause;
+mod deep;
 mod fetched;
 mod jobs;
 mod rounds;
@@ -11,6 +13,7 @@ mod window;
 mod work;
 
 pub use cause::ReadCause;
+pub use deep::{DeepStop, read_deep};
 pub use sound::{CheckStop, check};
 pub use target::Target;
 pub use window::{read_chunks, read_first, read_window};

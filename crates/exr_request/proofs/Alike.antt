@@ -18,11 +18,10 @@ use Rattle.exr_layout.specs.Validation.{Frame, is_empty_run, is_empty_plane, is_
 use Rattle.exr_layout.specs.Place.{placement_in, placements_of_plane, placements_of}
 use Rattle.exr_base.specs.Boxes.{is_inside}
 use Rattle.exr_layout.specs.Plan.{slices_matched, part_matched}
-use Rattle.exr_request.specs.declared.fault.RequestStop.{RequestStop}
-use Rattle.exr_request.specs.declared.fault.RequestStop.TheVariants.{Fault}
+use Rattle.exr_request.specs.declared.fault.RequestFault.{RequestFault}
 use Rattle.exr_request.specs.declared.fault.RequestFault.TheVariants.{TooLarge}
 use Rattle.exr_request.specs.Arranged.{PlainRun, PlainPlane, plain_run, plain_plane}
-use Rattle.exr_request.specs.Request.{stops, layout_stops, match_stops, frame_tested}
+use Rattle.exr_request.specs.Request.{refuses, layout_refuses, match_refuses, frame_tested}
 use Rattle.exr_request.proofs.Fits.{plain_run_slices, plain_slices, same_run_slices, same_slices}
 
 -- ---- lists of which a view is the same
@@ -227,26 +226,26 @@ matched_alike h f g alike =
     ∙ ap (λ (l : List Placement). cond (is_inside g.window h.window) (slices_matched h.channels 0 l) (Err WindowOutside)) (spots_alike f g alike)
 
 -- a frame is tested by how it is validated, by its size and by how it is matched
-unfoldable pub tested_by : Result ℕ LayoutFault → ℕ → Result (List (Option ℕ)) RequestStop → Result (List (Option ℕ)) RequestStop
+unfoldable pub tested_by : Result ℕ LayoutFault → ℕ → Result (List (Option ℕ)) RequestFault → Result (List (Option ℕ)) RequestFault
 tested_by judgement buffer matched = do
-  ends ← layout_stops judgement
-  small ← stops (nat_lt (2 ^ 30) buffer) (Fault TooLarge)
+  ends ← layout_refuses judgement
+  small ← refuses (nat_lt (2 ^ 30) buffer) TooLarge
   matched
 
-through : (judgement : Result ℕ LayoutFault) (large : Bool) (f : Frame) (next : Frame → Result (List (Option ℕ)) RequestStop)
-    → ((layout_stops judgement >>= λ ends. stops large (Fault TooLarge) >>= λ small. Ok f) >>= next) ≡ (layout_stops judgement >>= λ ends. stops large (Fault TooLarge) >>= λ small. next f)
+through : (judgement : Result ℕ LayoutFault) (large : Bool) (f : Frame) (next : Frame → Result (List (Option ℕ)) RequestFault)
+    → ((layout_refuses judgement >>= λ ends. refuses large TooLarge >>= λ small. Ok f) >>= next) ≡ (layout_refuses judgement >>= λ ends. refuses large TooLarge >>= λ small. next f)
 through (Ok ends) true f next = refl
 through (Ok ends) false f next = refl
 through (Err fault) large f next = refl
 
-pub tested_is : (h : Header) (f : Frame) → frame_tested h f ≡ tested_by (frame_validated f) f.buffer (match_stops (part_matched f h))
+pub tested_is : (h : Header) (f : Frame) → frame_tested h f ≡ tested_by (frame_validated f) f.buffer (match_refuses (part_matched f h))
 unfolding tested_by
-tested_is h f = through (frame_validated f) (nat_lt (2 ^ 30) f.buffer) f (λ layout. match_stops (part_matched layout h))
+tested_is h f = through (frame_validated f) (nat_lt (2 ^ 30) f.buffer) f (λ layout. match_refuses (part_matched layout h))
 
 pub tested_alike : (h : Header) (f g : Frame) → AreAlike f g → frame_tested h f ≡ frame_tested h g
 tested_alike h f g alike =
     tested_is h f
-    ∙ ap (λ (x : Result ℕ LayoutFault). tested_by x f.buffer (match_stops (part_matched f h))) (judged_alike f g alike)
-    ∙ ap (λ (b : ℕ). tested_by (frame_validated g) b (match_stops (part_matched f h))) alike.buffer
-    ∙ ap (tested_by (frame_validated g) g.buffer) (ap match_stops (matched_alike h f g alike))
+    ∙ ap (λ (x : Result ℕ LayoutFault). tested_by x f.buffer (match_refuses (part_matched f h))) (judged_alike f g alike)
+    ∙ ap (λ (b : ℕ). tested_by (frame_validated g) b (match_refuses (part_matched f h))) alike.buffer
+    ∙ ap (tested_by (frame_validated g) g.buffer) (ap match_refuses (matched_alike h f g alike))
     ∙ sym (tested_is h g)

@@ -17,9 +17,10 @@ use Rattle.exr_layout.specs.Plan.{Matching}
 use Rattle.exr_layout.specs.Validation.{Frame, frame_validated}
 use Rattle.exr_base.specs.Boxes.{is_inside}
 use Rattle.exr_layout.specs.Plan.{part_matched, IsPlanOf}
-use Rattle.exr_request.specs.declared.fault.RequestFault.TheVariants.{NoPart, Window, Mixed, Layout, TooLarge, Match}
-use Rattle.exr_request.specs.declared.fault.RequestStop.{RequestStop}
-use Rattle.exr_request.specs.declared.fault.RequestStop.TheVariants.{Form, Fault}
+use Rattle.exr_request.specs.declared.answer.Granted.{Granted}
+use Rattle.exr_request.specs.declared.answer.Granted.TheVariants as granted
+use Rattle.exr_request.specs.declared.fault.RequestFault.{RequestFault}
+use Rattle.exr_request.specs.declared.fault.RequestFault.TheVariants.{NoPart, DeepWords, Window, Mixed, Layout, TooLarge, Match}
 use Rattle.exr_request.specs.Arranged.{PlainPlane, plain_plane, planes_for, end_behind}
 use Rattle.exr_request.specs.Chosen.{channels_chosen, first_of}
 use Rattle.exr_asked.specs.Demand.{Demand}
@@ -43,12 +44,12 @@ pub record IsArranged (d : Demand) (h : Header) (f : Frame) : Type 0 where
 
 -- ---- tests of a part
 
--- a stop where a test applies
-abbrev pub stops : Bool → RequestStop → Result ℕ RequestStop
-stops applies stop = if applies then Err stop else Ok 0
+-- a fault where a test applies
+abbrev pub refuses : Bool → RequestFault → Result ℕ RequestFault
+refuses applies fault = if applies then Err fault else Ok 0
 
-abbrev pub part_found : Option Header → Result Header RequestStop
-part_found None = Err (Fault NoPart)
+abbrev pub part_found : Option Header → Result Header RequestFault
+part_found None = Err NoPart
 part_found (Some h) = Ok h
 
 -- a window that has pixels, all of them in the data window
@@ -65,41 +66,42 @@ is_mixed Pixels first c = not (c.xs == first.xs) || not (c.ys == first.ys)
 abbrev pub first_mixed : Arrangement → List Channel → Option ℕ
 first_mixed layout channels = position (is_mixed layout (first_of channels)) channels
 
-abbrev pub mixed_stops : Option ℕ → Result ℕ RequestStop
-mixed_stops None = Ok 0
-mixed_stops (Some slice) = Err (Fault (Mixed slice))
+abbrev pub mixed_refuses : Option ℕ → Result ℕ RequestFault
+mixed_refuses None = Ok 0
+mixed_refuses (Some slice) = Err (Mixed slice)
 
-abbrev pub part_tested : Demand → Header → Result Header RequestStop
+-- of a deep part nothing but the window may be chosen
+abbrev pub part_tested : Demand → Header → Result Header RequestFault
 part_tested d h = do
-  flat ← stops (is_deep h.kind) Form
-  within ← stops (not (is_window_of h (window_asked d h))) (Fault Window)
-  even ← mixed_stops (first_mixed d.layout (channels_asked d h))
+  plain ← refuses (is_deep h.kind && d.arranged) DeepWords
+  within ← refuses (not (is_window_of h (window_asked d h))) Window
+  even ← mixed_refuses (first_mixed d.layout (channels_asked d h))
   Ok h
 
--- the part that is asked for, or the first stop
-abbrev pub part_asked : Head → Demand → Result Header RequestStop
+-- the part that is asked for, or the first fault
+abbrev pub part_asked : Head → Demand → Result Header RequestFault
 part_asked head d = part_found (slice_get head.parts d.part) >>= part_tested d
 
 -- ---- tests of a frame
 
-abbrev pub layout_stops : Result ℕ LayoutFault → Result ℕ RequestStop
-layout_stops (Ok ends) = Ok ends
-layout_stops (Err fault) = Err (Fault (Layout fault))
+abbrev pub layout_refuses : Result ℕ LayoutFault → Result ℕ RequestFault
+layout_refuses (Ok ends) = Ok ends
+layout_refuses (Err fault) = Err (Layout fault)
 
-abbrev pub match_stops : Result (List (Option ℕ)) MatchFault → Result (List (Option ℕ)) RequestStop
-match_stops (Ok places) = Ok places
-match_stops (Err fault) = Err (Fault (Match fault))
+abbrev pub match_refuses : Result (List (Option ℕ)) MatchFault → Result (List (Option ℕ)) RequestFault
+match_refuses (Ok places) = Ok places
+match_refuses (Err fault) = Err (Match fault)
 
 -- a layout of at most 2^30 bytes
-abbrev pub layout_tested : Frame → Result Frame RequestStop
+abbrev pub layout_tested : Frame → Result Frame RequestFault
 layout_tested f = do
-  ends ← layout_stops (frame_validated f)
-  small ← stops (nat_lt (2 ^ 30) f.buffer) (Fault TooLarge)
+  ends ← layout_refuses (frame_validated f)
+  small ← refuses (nat_lt (2 ^ 30) f.buffer) TooLarge
   Ok f
 
--- the places of the slices' channels, or the first stop
-abbrev pub frame_tested : Header → Frame → Result (List (Option ℕ)) RequestStop
-frame_tested h f = layout_tested f >>= λ layout. match_stops (part_matched layout h)
+-- the places of the slices' channels, or the first fault
+abbrev pub frame_tested : Header → Frame → Result (List (Option ℕ)) RequestFault
+frame_tested h f = layout_tested f >>= λ layout. match_refuses (part_matched layout h)
 
 -- ---- answers
 
@@ -110,23 +112,37 @@ pub record IsFit (d : Demand) (h : Header) (f : Frame) (plan : Matching) : Type 
   pub planned : IsPlanOf f h.channels plan
 
 -- such a frame does not
-pub record IsUnfit (d : Demand) (h : Header) (stop : RequestStop) : Type 0 where
+pub record IsUnfit (d : Demand) (h : Header) (fault : RequestFault) : Type 0 where
   pub frame : Frame
   pub arranged : IsArranged d h frame
-  pub tested : frame_tested h frame ≡ Err stop
+  pub tested : frame_tested h frame ≡ Err fault
 
--- what is asked for can be had: the part passes, and the frame
+-- what is asked of a flat part can be had: the part passes, and the frame
 pub record IsGranted (head : Head) (d : Demand) (f : Frame) (plan : Matching) : Type 0 where
   pub part : Header
   pub asked : part_asked head d ≡ Ok part
+  pub flat : is_deep part.kind ≡ false
   pub fit : IsFit d part f plan
 
--- it cannot: the part does not pass, or it does and the frame does not
-abbrev pub IsRefused : Head → Demand → RequestStop → Type 0
-IsRefused head d stop =
-    (part_asked head d ≡ Err stop) ⊎ ((part : Header) × (part_asked head d ≡ Ok part) × IsUnfit d part stop)
+-- what is asked of a deep part can be had, if its pixels are not too many: the part passes
+pub record IsDeepGranted (head : Head) (d : Demand) (window : Box2i) : Type 0 where
+  pub part : Header
+  pub asked : part_asked head d ≡ Ok part
+  pub deep : is_deep part.kind ≡ true
+  pub over : window ≡ window_asked d part
+
+-- what a call answers
+abbrev pub IsGrant : Head → Demand → Granted → Type 0
+IsGrant head d (granted.Flat fitted) = IsGranted head d fitted.layout fitted.plan
+IsGrant head d (granted.Deep window) = IsDeepGranted head d window
+
+-- it cannot: the part does not pass, or it is flat and passes, and the frame does not
+abbrev pub IsRefused : Head → Demand → RequestFault → Type 0
+IsRefused head d fault =
+    (part_asked head d ≡ Err fault)
+    ⊎ ((part : Header) × (part_asked head d ≡ Ok part) × (is_deep part.kind ≡ false) × IsUnfit d part fault)
 
 -- the same of a call's answer; want of memory says nothing
-abbrev pub IsRefusal : Head → Demand → Refusal RequestStop → Type 0
-IsRefusal head d (refusal.Fault stop) = IsRefused head d stop
+abbrev pub IsRefusal : Head → Demand → Refusal RequestFault → Type 0
+IsRefusal head d (refusal.Fault fault) = IsRefused head d fault
 IsRefusal head d refusal.NoMemory = Unit {0}

@@ -12,6 +12,10 @@ pub enum RequestFault {
     /// The file has no such part.
     #[error("no such part")]
     NoPart,
+    /// The part is deep, and a choice was given that only the buffer of a flat part has: the layout, channels, padding, a fill
+    /// or what the buffer begins as.
+    #[error("a deep part takes no layout, channels, pad, fill or byte")]
+    DeepWords,
     /// The window is empty, or not within the data window.
     #[error("the window is empty or not within the data window")]
     Window,
@@ -27,6 +31,9 @@ pub enum RequestFault {
     /// The layout does not fit the part.
     #[error("no match: {0}")]
     Match(MatchFault),
+    /// The pixels of a deep part have more than 2^30 bytes, with this chunk of the part for the first time.
+    #[error("too large at chunk {index}")]
+    DeepTooLarge { index: u32 },
 }
 
 impl RequestFault {
@@ -36,22 +43,13 @@ impl RequestFault {
     {
         match self {
             RequestFault::NoPart => 1,
+            RequestFault::DeepWords => 2,
             RequestFault::Window => 3,
             RequestFault::Mixed { .. } => 4,
             RequestFault::Layout(_) => 5,
             RequestFault::TooLarge => 6,
             RequestFault::Match(_) => 7,
+            RequestFault::DeepTooLarge { .. } => 11,
         }
     }
-}
-
-/// Why a request stops.
-#[derive(Clone, Copy, Debug, PartialEq, Eq, Error)]
-pub enum RequestStop {
-    /// A kind of part that is not supported so far: it is deep.
-    #[error("form")]
-    Form,
-    /// The request is refused.
-    #[error("request fault: {0}")]
-    Fault(RequestFault),
 }

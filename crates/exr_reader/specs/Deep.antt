@@ -1,0 +1,91 @@
+-- The samples of a deep part, one pixel at a time, and what reading a window of it gives. File Layout, "Deep Data Blocks";
+-- how much a window may have is this project's (own).
+use Rattle.std.specs.Prelude.{◌≡◌, ◌<◌, ◌≤◌, ◌+◌, ◌*◌, ◌^◌, ℕ, ℤ, List, [], length, map, sum, take, slice_index, get_or, Result, Ok, Err}
+use Rattle.exr_base.specs.declared.shape.Box2i.{Box2i}
+use Rattle.exr_block.specs.declared.fault.ChunkFault.{ChunkFault}
+use Rattle.exr_block.specs.Body.{Content, flat_content, deep_content}
+use Rattle.exr_deep.specs.Body.{DeepContent, content_of}
+use Rattle.exr_deep.specs.Deep.{pixels_of}
+use Rattle.exr_image.specs.declared.chunk.DeepChunk.{DeepChunk}
+use Rattle.exr_image.specs.declared.image.DeepImage.{DeepImage}
+use Rattle.exr_image.specs.Pixel.{count_in, pixel_samples_in}
+use Rattle.exr_image.specs.Image.{DeepPixels, IsImage}
+use Rattle.exr_chunks.specs.Pixels.{chunk_with}
+use Rattle.exr_chunks.specs.Region.{region_of}
+use Rattle.exr_stream.specs.Chunk.{Opened, header_in}
+use Rattle.exr_reader.specs.declared.deep.DeepStop.{DeepStop}
+use Rattle.exr_reader.specs.declared.deep.DeepStop.TheVariants as stop
+use Rattle.exr_reader.specs.declared.cause.ReadCause.{ReadCause}
+use Rattle.exr_reader.specs.declared.cause.ReadCause.TheVariants as cause
+use Rattle.exr_reader.specs.Sample.{raw_of}
+use Rattle.exr_reader.specs.Window.{HaveDataOf, IsFirstFaultOf}
+
+-- the counts and the samples of a deep chunk; there are none where it has a fault
+abbrev pub deep_or_none : Result Content ChunkFault → DeepContent
+deep_or_none (Ok (deep_content content)) = content
+deep_or_none (Ok (flat_content bytes)) = record { counts = []; samples = [] }
+deep_or_none (Err fault) = record { counts = []; samples = [] }
+
+abbrev pub deep_of_chunk : Opened → ℕ → ℕ → DeepContent
+deep_of_chunk file part i = deep_or_none (raw_of file part i)
+
+-- the pixels of a deep part: those of pixel (x, y) are in the one chunk whose region has it
+abbrev pub pixels_in : Opened → ℕ → DeepPixels
+pixels_in file part = record {
+  count = λ x y. count_in (region_of (header_in file part) (chunk_with (header_in file part) x y)) (deep_of_chunk file part (chunk_with (header_in file part) x y)) x y;
+  samples = λ c x y. pixel_samples_in (header_in file part).channels (region_of (header_in file part) (chunk_with (header_in file part) x y)) (deep_of_chunk file part (chunk_with (header_in file part) x y)) c x y;
+}
+
+-- the image of a window of a part
+abbrev pub IsDeepImage : Opened → ℕ → Box2i → DeepImage → Type 0
+IsDeepImage file part window image = IsImage (pixels_in file part) (header_in file part).channels window image
+
+-- ---- how much a window has
+
+-- the bytes of the samples of a chunk, unpacked
+abbrev pub samples_size : Opened → ℕ → ℕ → ℕ
+samples_size file part i = length (deep_of_chunk file part i).samples
+
+-- four bytes for each pixel of a window, and the samples of the first n chunks of a list
+unfoldable pub size_so_far : Opened → ℕ → Box2i → List ℕ → ℕ → ℕ
+size_so_far file part window chunks n = 4 * pixels_of window + sum (map (samples_size file part) (take n chunks))
+
+-- with none of the first n chunks of a list there are more than 2^30 bytes
+abbrev pub AreSmall : Opened → ℕ → Box2i → List ℕ → ℕ → Type 0
+AreSmall file part window chunks n = (r : ℕ) → r < n → size_so_far file part window chunks (r + 1) ≤ 2 ^ 30
+
+-- ---- why a window cannot be read
+
+-- the first fault of the chunks of a list, before which there are not too many bytes
+pub record IsDeepFault (file : Opened) (part : ℕ) (window : Box2i) (chunks : List ℕ) (i : ℕ) (fault : ChunkFault) : Type 0 where
+  pub rank : ℕ
+  pub first : IsFirstFaultOf file part chunks rank i fault
+  pub small : AreSmall file part window chunks rank
+
+-- the first chunk with which there are too many bytes; it and those before it have content
+pub record IsTooLarge (file : Opened) (part : ℕ) (window : Box2i) (chunks : List ℕ) (i : ℕ) : Type 0 where
+  pub rank : ℕ
+  pub within : rank < length chunks
+  pub index : slice_index chunks rank ≡ i
+  pub content : HaveDataOf file part chunks (rank + 1)
+  pub small : AreSmall file part window chunks rank
+  pub large : 2 ^ 30 < size_so_far file part window chunks (rank + 1)
+
+-- the chunks of a list: their regions, and their content where the file is known
+pub record AreDeepChunks (told : Type 0) (file : Opened) (part : ℕ) (indexes : List ℕ) (chunks : List DeepChunk) : Type 0 where
+  pub regions : (k : ℕ) (d : DeepChunk) → k < length chunks → (get_or chunks k d).region ≡ region_of (header_in file part) (slice_index indexes k)
+  pub content : told → (k : ℕ) (d : DeepChunk) → k < length chunks
+      → raw_of file part (slice_index indexes k) ≡ Ok (deep_content (content_of (get_or chunks k d).content))
+
+-- a cause of reading as a stop
+abbrev pub stop_of_cause : ReadCause → DeepStop
+stop_of_cause cause.NoMemory = stop.NoMemory
+stop_of_cause cause.Read = stop.Read
+stop_of_cause (cause.Chunk index fault) = stop.Chunk index fault
+
+-- the fact that goes with each stop; want of memory needs none
+abbrev pub HasDeepCause : DeepStop → (ℕ → ChunkFault → Type 0) → (ℕ → Type 0) → Type 0 → Type 0
+HasDeepCause stop.NoMemory chunk large rose = Unit {0}
+HasDeepCause stop.Read chunk large rose = rose
+HasDeepCause (stop.Chunk index fault) chunk large rose = chunk index fault
+HasDeepCause (stop.TooLarge index) chunk large rose = large index
