@@ -19,11 +19,11 @@ pub one_value : {A E : Type 0} (r : Result A E) (x y : A) → r ≡ Ok x → r �
 unfolding the_value
 one_value r x y first second = ap (λ z. the_value z x) (sym first ∙ second)
 
-one_error : {A E : Type 0} (r : Result A E) (x y : E) → r ≡ Err x → r ≡ Err y → x ≡ y
+pub one_error : {A E : Type 0} (r : Result A E) (x y : E) → r ≡ Err x → r ≡ Err y → x ≡ y
 unfolding the_error
 one_error r x y first second = ap (λ z. the_error z x) (sym first ∙ second)
 
-not_both : {A E : Type 0} (r : Result A E) (x : A) (e : E) → r ≡ Ok x → r ≡ Err e → ⊥
+pub not_both : {A E : Type 0} (r : Result A E) (x : A) (e : E) → r ≡ Ok x → r ≡ Err e → ⊥
 not_both r x e ok err = absurd (cc (sym ok ∙ err))
 
 -- ---- stops, where P are those that the input calls for
@@ -75,3 +75,27 @@ pub owes_or : (r : Result (Unit {0}) Stop) (P : Stop → Type 0) (T read write :
     → IfErr r (λ stop. OwesRise stop read write)
 owes_or (Ok x) P T read write none told reason = tt
 owes_or (Err stop) P T read write none told reason = owes_by P stop read write none (told_reason P stop T read write told reason)
+
+-- ---- a rise of one of two counts, where the one is known
+
+rise_wider : (read write more : Type 0) → (write → more) → read ⊎ write → read ⊎ more
+rise_wider read write more up (inl rose) = inl rose
+rise_wider read write more up (inr rose) = inr (up rose)
+
+owes_wider : (stop : Stop) (read write more : Type 0) → (write → more) → OwesRise stop read write → OwesRise stop read more
+owes_wider NoMemory read write more up owes = tt
+owes_wider (Words position) read write more up owes = rise_wider read write more up owes
+owes_wider (File n f) read write more up owes = rise_wider read write more up owes
+owes_wider Read read write more up owes = rise_wider read write more up owes
+owes_wider Write read write more up owes = rise_wider read write more up owes
+owes_wider (Request r) read write more up owes = rise_wider read write more up owes
+owes_wider Form read write more up owes = rise_wider read write more up owes
+
+pub stops_or_wider : (r : Result (Unit {0}) Stop) (due : Stop) (read write more : Type 0) → (write → more) → StopsOr r due read write → StopsOr r due read more
+stops_or_wider (Ok x) due read write more up stops = stops
+stops_or_wider (Err stop) due read write more up (inl same) = inl same
+stops_or_wider (Err stop) due read write more up (inr owes) = inr (owes_wider stop read write more up owes)
+
+pub owes_or_wider : (r : Result (Unit {0}) Stop) (read write more : Type 0) → (write → more) → IfErr r (λ stop. OwesRise stop read write) → IfErr r (λ stop. OwesRise stop read more)
+owes_or_wider (Ok x) read write more up owes = tt
+owes_or_wider (Err stop) read write more up owes = owes_wider stop read write more up owes

@@ -16,7 +16,7 @@ use Rattle.exr_tools.proofs.Answered.{IsOne, IsNone, one_value, one_error, not_b
 -- ---- the first chunk that is not sound is one
 
 clash : (file : Opened) (part i : ℕ) → is_sound (raw_of file part i) ≡ true → is_sound (raw_of file part i) ≡ false → ⊥
-clash file part i yes no = absurd (cc)
+clash file part i sound unsound = absurd (cc)
 
 one_of_part : (file : Opened) (part i j : ℕ) (f g : ChunkFault) → IsFirstUnsoundOf file part i f → IsFirstUnsoundOf file part j g → (i ≡ j) × (f ≡ g)
 one_of_part file part i j f g a b =

@@ -3,3 +3,4 @@ pub mod Broken
 pub mod Due
 pub mod Granting
 pub mod Left
+pub mod Lines

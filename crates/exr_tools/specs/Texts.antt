@@ -27,7 +27,7 @@ line_of_part parts unread part = part_line part (chunk_count_of (header_at parts
 -- the report on all parts of a file
 unfoldable pub report_of : List Header → List ℕ → List ℕ
 report_of parts unread =
-    flat_map (line_of_part parts unread) (range_with_len 0 (length parts)) ++ codes "ok" ++ 10 ∷ []
+    flat_map (line_of_part parts unread) (range_with_len 0 (length parts)) ++ (codes "ok" ++ 10 ∷ [])
 
 -- the status of a stop
 abbrev pub status_of : Stop → ℕ

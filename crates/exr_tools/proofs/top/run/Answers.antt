@@ -1,11 +1,11 @@
 -- What the input of a test or of an extraction calls for.
-use Rattle.std.proofs.Common.{sym, ap, subst, ◌∙◌}
+use Rattle.std.proofs.Common.{inr, sym, ap, subst, ◌∙◌}
 use Rattle.exr_asked.specs.Choices.{choices_in}
 use Rattle.exr_asked.specs.Demand.{demand_of, demand_in}
 use Rattle.exr_words.specs.Command.{command_in, first_of}
 use Rattle.exr_words.specs.Words.{texts_of, command_of}
 use Rattle.exr_tools.specs.Run.{IsUnread, IsBroken, IsWhole, IsDue, IsSound, IsReadable}
-use Rattle.exr_tools.proofs.Answered.{one_value, stops_or, owes_or}
+use Rattle.exr_tools.proofs.Answered.{one_value, stops_or, stops_or_wider, owes_or, owes_or_wider}
 use Rattle.exr_tools.proofs.Broken.{broken_alone, whole_not_broken}
 use Rattle.exr_tools.proofs.Due.{due_alone, read_not_due}
 use Rattle.exr_tools.proofs.top.run.Goals as goal
@@ -46,8 +46,9 @@ returns-in-Check-clause-due g c = λ told command due order is.
     let given : IsBroken due 0 (files (first_of e.inputs)) = subst (λ k. IsDue k files due) same is in
     let file = files c.first-in-Check.result.now in
     let here : IsBroken due 0 file = subst (λ name. IsBroken due 0 (files name)) (sym c.first-in-Check.ensures) given in
-    stops_or c.check.result (λ x. IsBroken x 0 file) due _ _ _ _ (broken_alone 0 file) (λ w. whole_not_broken 0 file (w.given told).reported.of) told
-    c.check.ensures.done c.check.ensures.reason here
+    stops_or_wider c.check.result due _ _ _ (λ rose. inr rose)
+    (stops_or c.check.result (λ x. IsBroken x 0 file) due _ _ _ _ (broken_alone 0 file) (λ w. whole_not_broken 0 file (w.given told).reported.of) told
+    c.check.ensures.done c.check.ensures.reason here)
 
 pub returns-in-Check-clause-complete : goal.returns-in-Check-clause-complete
 returns-in-Check-clause-complete g c = λ told command order sound.
@@ -57,4 +58,4 @@ returns-in-Check-clause-complete g c = λ told command order sound.
     let given : IsWhole (files (first_of e.inputs)) = subst (λ k. IsSound k files) same sound in
     let file = files c.first-in-Check.result.now in
     let here : IsWhole file = subst (λ name. IsWhole (files name)) (sym c.first-in-Check.ensures) given in
-    owes_or c.check.result (λ x. IsBroken x 0 file) _ _ _ (whole_not_broken 0 file here) told c.check.ensures.reason
+    owes_or_wider c.check.result _ _ _ (λ rose. inr rose) (owes_or c.check.result (λ x. IsBroken x 0 file) _ _ _ (whole_not_broken 0 file here) told c.check.ensures.reason)
