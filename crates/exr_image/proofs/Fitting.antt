@@ -44,7 +44,7 @@ all_counts window chunks pieces counted are =
 
 -- ---- samples
 
-samples_small : (channels : List Channel) (chunk : ChunkView) → fits channels chunk.region chunk.content ≡ true → length chunk.content.samples ≤ 2 ^ 26
+pub samples_small : (channels : List Channel) (chunk : ChunkView) → fits channels chunk.region chunk.content ≡ true → length chunk.content.samples ≤ 2 ^ 26
 unfolding fits
 samples_small channels chunk is =
     let counted = eqb (length chunk.content.counts) (pixels_of chunk.region) in

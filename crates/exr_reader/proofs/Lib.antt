@@ -1,4 +1,5 @@
 pub mod Contents
+pub mod Deepening
 pub mod Filling
 pub mod InRounds
 pub mod Meeting

@@ -1,11 +1,14 @@
 -- The samples of a deep part, one pixel at a time, and what reading a window of it gives. File Layout, "Deep Data Blocks";
 -- how much a window may have is this project's (own).
-use Rattle.std.specs.Prelude.{◌≡◌, ◌<◌, ◌≤◌, ◌+◌, ◌*◌, ◌^◌, ℕ, ℤ, List, [], length, map, sum, take, slice_index, get_or, Result, Ok, Err}
+use Rattle.std.specs.Prelude.{◌≡◌, ◌<◌, ◌≤◌, ◌+◌, ◌*◌, ◌^◌, ℕ, ℤ, List, [], length, take, slice_index, true, Result, Ok, Err}
+use Rattle.std.specs.List.{HoldsAt, sum_by}
 use Rattle.exr_base.specs.declared.shape.Box2i.{Box2i}
+use Rattle.exr_base.specs.Boxes.{IsInside}
+use Rattle.exr_base.specs.Shape.{IsRegion}
 use Rattle.exr_block.specs.declared.fault.ChunkFault.{ChunkFault}
 use Rattle.exr_block.specs.Body.{Content, flat_content, deep_content}
 use Rattle.exr_deep.specs.Body.{DeepContent, content_of}
-use Rattle.exr_deep.specs.Deep.{pixels_of}
+use Rattle.exr_deep.specs.Deep.{fits, pixels_of}
 use Rattle.exr_image.specs.declared.chunk.DeepChunk.{DeepChunk}
 use Rattle.exr_image.specs.declared.image.DeepImage.{DeepImage}
 use Rattle.exr_image.specs.Pixel.{count_in, pixel_samples_in}
@@ -48,7 +51,7 @@ samples_size file part i = length (deep_of_chunk file part i).samples
 
 -- four bytes for each pixel of a window, and the samples of the first n chunks of a list
 unfoldable pub size_so_far : Opened → ℕ → Box2i → List ℕ → ℕ → ℕ
-size_so_far file part window chunks n = 4 * pixels_of window + sum (map (samples_size file part) (take n chunks))
+size_so_far file part window chunks n = 4 * pixels_of window + sum_by (samples_size file part) (take n chunks)
 
 -- with none of the first n chunks of a list there are more than 2^30 bytes
 abbrev pub AreSmall : Opened → ℕ → Box2i → List ℕ → ℕ → Type 0
@@ -71,11 +74,20 @@ pub record IsTooLarge (file : Opened) (part : ℕ) (window : Box2i) (chunks : Li
   pub small : AreSmall file part window chunks rank
   pub large : 2 ^ 30 < size_so_far file part window chunks (rank + 1)
 
--- the chunks of a list: their regions, and their content where the file is known
-pub record AreDeepChunks (told : Type 0) (file : Opened) (part : ℕ) (indexes : List ℕ) (chunks : List DeepChunk) : Type 0 where
-  pub regions : (k : ℕ) (d : DeepChunk) → k < length chunks → (get_or chunks k d).region ≡ region_of (header_in file part) (slice_index indexes k)
-  pub content : told → (k : ℕ) (d : DeepChunk) → k < length chunks
-      → raw_of file part (slice_index indexes k) ≡ Ok (deep_content (content_of (get_or chunks k d).content))
+-- ---- what reading goes by
+
+-- a chunk of a part: its region, and counts and samples that fit it, which are the chunk's own where the file is known
+pub record IsDeepChunk (told : Type 0) (file : Opened) (part index : ℕ) (chunk : DeepChunk) : Type 0 where
+  pub region : chunk.region ≡ region_of (header_in file part) index
+  pub is_region : IsRegion chunk.region
+  pub inside : IsInside (header_in file part).window chunk.region
+  pub fits : fits (header_in file part).channels chunk.region (content_of chunk.content) ≡ true
+  pub content : told → raw_of file part index ≡ Ok (deep_content (content_of chunk.content))
+
+-- those of a list of indexes, as far as there are chunks
+abbrev pub AreDeepChunks : Type 0 → Opened → ℕ → List ℕ → List DeepChunk → Type 0
+AreDeepChunks told file part indexes chunks =
+    (k : ℕ) → k < length chunks → HoldsAt (IsDeepChunk told file part (slice_index indexes k)) chunks k
 
 -- a cause of reading as a stop
 abbrev pub stop_of_cause : ReadCause → DeepStop

@@ -16,7 +16,7 @@ ghost use Rattle.exr_reader.specs.declared.deep.DeepStop.TheVariants as stop;
 ghost use Rattle.exr_reader.specs.Sample.{raw_of};
 ghost use Rattle.exr_reader.specs.Reading.{HasCause};
 ghost use Rattle.exr_reader.specs.Window.{AreChunks, HaveDataOf};
-ghost use Rattle.exr_reader.specs.Deep.{IsDeepImage, AreSmall, AreDeepChunks, IsDeepFault, IsTooLarge, HasDeepCause, stop_of_cause};
+ghost use Rattle.exr_reader.specs.Deep.{IsDeepImage, AreSmall, IsDeepChunk, AreDeepChunks, IsDeepFault, IsTooLarge, HasDeepCause, stop_of_cause};
 
 use crate::cause::ReadCause;
 use crate::fetched::read_block;
@@ -78,15 +78,14 @@ impl<X: Drop> From<AllocFailed<X>> for DeepStop {
     }
 }
 
-impl From<ReadCause> for DeepStop {
-    ghost from_gives = { λ cause e. e ≡ stop_of_cause cause };
-
-    fn from(cause: ReadCause) -> DeepStop {
-        match cause {
-            ReadCause::NoMemory => DeepStop::NoMemory,
-            ReadCause::Read => DeepStop::Read,
-            ReadCause::Chunk { index, fault } => DeepStop::Chunk { index, fault },
-        }
+/// The stop of a cause that reading a chunk has.
+fn stop_of(cause: ReadCause) -> DeepStop
+    ensures { result ≡ stop_of_cause cause }
+{
+    match cause {
+        ReadCause::NoMemory => DeepStop::NoMemory,
+        ReadCause::Read => DeepStop::Read,
+        ReadCause::Chunk { index, fault } => DeepStop::Chunk { index, fault },
     }
 }
 
@@ -100,12 +99,8 @@ fn read_deep_chunk<W: World, S: Source>(
     requires part { part < length stream.old.head.parts }
     requires index { index < chunk_count_of (header_at stream.old.head.parts part) }
     requires deep { is_deep (header_at stream.old.head.parts part).kind ≡ true }
-    ensures content { IsTrue S.means.tells → IfOk result (λ chunk.
-        raw_of (file_of S.means stream.old) part index ≡ Ok (deep_content (content_of chunk.content))) }
-    ensures region { IfOk result (λ chunk. chunk.region ≡ region_of (header_at stream.old.head.parts part) index) }
-    ensures is_region { IfOk result (λ chunk. IsRegion chunk.region) }
-    ensures fits { IfOk result (λ chunk. fits (header_at stream.old.head.parts part).channels
-        (region_of (header_at stream.old.head.parts part) index) (content_of chunk.content) ≡ true) }
+    ensures chunk { IfOk result (IsDeepChunk (IsTrue S.means.tells) (file_of S.means stream.old) part index) }
+    ensures samples { IfOk result (λ chunk. length chunk.content.samples.items ≤ 2 ^ 26) }
     ensures same { IsSameStream S.means stream.old stream.new }
     ensures later { S.means.faults stream.old.source ≤ S.means.faults stream.new.source }
     ensures cause { IfErr result (λ cause. HasCause cause (λ i fault. (i ≡ index) × (IsTrue S.means.tells
@@ -146,6 +141,7 @@ fn read_deep_chunks<W: World, S: Source, G: Gate>(
     ensures chunks { IfOk result (λ chunks. AreDeepChunks (IsTrue S.means.tells) (file_of S.means stream.old) part indexes.now chunks.items) }
     ensures many { IfOk result (λ chunks. length chunks.items ≡ length indexes.now) }
     ensures few { OnOk result (1 ≤ length indexes.now → 4 * pixels_of window ≤ 2 ^ 30) }
+    ensures content { IsTrue S.means.tells → OnOk result (HaveDataOf (file_of S.means stream.old) part indexes.now (length indexes.now)) }
     ensures small { IsTrue S.means.tells → OnOk result
         (AreSmall (file_of S.means stream.old) part window indexes.now (length indexes.now)) }
     ensures same { IsSameStream S.means stream.old stream.new }
@@ -163,12 +159,16 @@ fn read_deep_chunks<W: World, S: Source, G: Gate>(
         jobs.begin(index);
         let read = read_deep_chunk(alloc, stream, part, index);
         jobs.end(index);
-        let chunk = read?;
-        size += chunk.content.samples.len() as u64;
-        if size > MOST_BYTES {
-            return Err(DeepStop::TooLarge { index });
+        match read {
+            Ok(chunk) => {
+                size += chunk.content.samples.len() as u64;
+                if size > MOST_BYTES {
+                    return Err(DeepStop::TooLarge { index });
+                }
+                chunks.push(chunk)?;
+            }
+            Err(cause) => return Err(stop_of(cause)),
         }
-        chunks.push(chunk)?;
     }
     Ok(chunks)
 }
