@@ -1,3 +1,4 @@
 pub mod Pixel
+pub mod Bytes
 pub mod Image
 pub mod Pieces

@@ -2,6 +2,7 @@
 //! and of each channel all their samples.
 #![tactic(auto)]
 
+mod bytes;
 mod chunk;
 mod image;
 mod piece;

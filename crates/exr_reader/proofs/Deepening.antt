@@ -8,6 +8,9 @@ use Rattle.std.proofs.lemmas.List.Elements.{All-nil, All-from_get_or}
 use Rattle.std.proofs.lemmas.List.Sums.{sum_by_push}
 use Rattle.exr_base.specs.declared.shape.Box2i.{Box2i}
 use Rattle.exr_base.specs.Boxes.{IsWithin, IsInside}
+use Rattle.exr_base.specs.Sampling.{span_of}
+use Rattle.exr_base.specs.Shape.{IsSide, IsRegion}
+use Rattle.exr_base.proofs.Sides.{span_is, side_within}
 use Rattle.exr_block.specs.declared.fault.ChunkFault.{ChunkFault}
 use Rattle.exr_block.specs.Body.{deep_content}
 use Rattle.exr_deep.specs.Body.{content_of}
@@ -111,6 +114,24 @@ within_inside all w x y inside pixel =
     let a = inside.left in let b = inside.right in let c = inside.top in let d = inside.bottom in
     let l = pixel.left in let r = pixel.right in let t = pixel.top in let u = pixel.bottom in
     record { left = omega (arith, ints, a, l); right = omega (arith, ints, b, r); top = omega (arith, ints, c, t); bottom = omega (arith, ints, d, u) }
+
+-- a window within the data window is a region
+side_in : (low high from to : ℤ) → IsSide low high → low ≤ℤ from → from ≤ℤ to → to ≤ℤ high → IsSide from to
+side_in low high from to side l o r =
+    let a = side.low in
+    let b = side.end_high in
+    let few = side.few in
+    let whole = span_is low high side.ends in
+    let part = span_is from to (omega (arith, ints, o)) in
+    side_within from to (span_of from to) o (omega (arith, ints, a, l)) (omega (arith, ints, b, r)) refl (omega (arith, ints, whole, part, l, r, few))
+
+pub region_in : (h : Header) (window : Box2i) → IsPicture h → IsInside h.window window → IsRegion window
+region_in h window picture inside =
+    let all = picture.shape.within in
+    record {
+      columns = side_in h.window.x0 h.window.x1 window.x0 window.x1 all.columns inside.left inside.columns inside.right;
+      rows = side_in h.window.y0 h.window.y1 window.y0 window.y1 all.rows inside.top inside.rows inside.bottom;
+    }
 
 -- each pixel of the window is one of a chunk's
 pub covering : (told : Type 0) (file : Opened) (part : ℕ) (window : Box2i) (chunks : List DeepChunk) → IsPicture (header_in file part) → IsInside (header_in file part).window window

@@ -192,7 +192,6 @@ pub fn read_deep<R: Threads + Sync, W: World, S: Source, G: Gate>(
 ) -> Result<DeepImage, DeepStop>
     requires part { part < length stream.old.head.parts }
     requires deep { is_deep (header_at stream.old.head.parts part).kind ≡ true }
-    requires window { IsRegion window }
     requires inside { IsInside (header_at stream.old.head.parts part).window window }
     ensures image { IsTrue S.means.tells → IfOk result (IsDeepImage (file_of S.means stream.old) part window) }
     ensures chunks { IsTrue S.means.tells → OnOk result (HaveDataOf (file_of S.means stream.old) part

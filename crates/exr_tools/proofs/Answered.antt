@@ -1,7 +1,7 @@
 -- Answers to a command whose input calls for one stop at the most.
 use Rattle.std.proofs.Common.{◌≡◌, ◌⊎◌, inl, inr, Result, Ok, Err, OnOk, IfErr, sym, ap, ◌∙◌}
 use Rattle.exr_tools.specs.declared.stop.Stop.{Stop}
-use Rattle.exr_tools.specs.declared.stop.Stop.TheVariants.{NoMemory, Words, File, Read, Write, Request, Form}
+use Rattle.exr_tools.specs.declared.stop.Stop.TheVariants.{NoMemory, Words, File, Read, Write, Request}
 use Rattle.exr_tools.specs.Run.{HasReason, OwesRise, StopsOr}
 
 -- ---- results
@@ -43,7 +43,6 @@ stops_by P (File n f) due read write one reason is = inl (one (File n f) due rea
 stops_by P Read due read write one reason is = inr (inl reason)
 stops_by P Write due read write one reason is = inr (inr reason)
 stops_by P (Request r) due read write one reason is = inl (one (Request r) due reason is)
-stops_by P Form due read write one reason is = inl (one Form due reason is)
 
 owes_by : (P : Stop → Type 0) (stop : Stop) (read write : Type 0) → IsNone P → HasReason stop (λ _. ⊥) P read write → OwesRise stop read write
 owes_by P NoMemory read write none reason = tt
@@ -52,7 +51,6 @@ owes_by P (File n f) read write none reason = absurd (none (File n f) reason)
 owes_by P Read read write none reason = inl reason
 owes_by P Write read write none reason = inr reason
 owes_by P (Request r) read write none reason = absurd (none (Request r) reason)
-owes_by P Form read write none reason = absurd (none Form reason)
 
 -- what holds where the content is told
 told_reason : (P : Stop → Type 0) (stop : Stop) (T read write : Type 0) → T → HasReason stop (λ _. ⊥) (λ x. T → P x) read write → HasReason stop (λ _. ⊥) P read write
@@ -62,7 +60,6 @@ told_reason P (File n f) T read write told reason = reason told
 told_reason P Read T read write told reason = reason
 told_reason P Write T read write told reason = reason
 told_reason P (Request r) T read write told reason = reason told
-told_reason P Form T read write told reason = reason told
 
 -- the stop that the input calls for, or another that owes a rise
 pub stops_or : (r : Result (Unit {0}) Stop) (P : Stop → Type 0) (due : Stop) (T done read write : Type 0) → IsOne P → (done → IsNone P) → T → OnOk r done
@@ -89,7 +86,6 @@ owes_wider (File n f) read write more up owes = rise_wider read write more up ow
 owes_wider Read read write more up owes = rise_wider read write more up owes
 owes_wider Write read write more up owes = rise_wider read write more up owes
 owes_wider (Request r) read write more up owes = rise_wider read write more up owes
-owes_wider Form read write more up owes = rise_wider read write more up owes
 
 pub stops_or_wider : (r : Result (Unit {0}) Stop) (due : Stop) (read write more : Type 0) → (write → more) → StopsOr r due read write → StopsOr r due read more
 stops_or_wider (Ok x) due read write more up stops = stops

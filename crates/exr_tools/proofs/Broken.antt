@@ -8,7 +8,7 @@ use Rattle.exr_stream.specs.Chunk.{Opened}
 use Rattle.exr_reader.specs.Sample.{raw_of}
 use Rattle.exr_reader.specs.Check.{is_sound, IsSoundFile, IsFirstUnsoundOf, IsFirstUnsound}
 use Rattle.exr_tools.specs.declared.stop.Stop.{Stop}
-use Rattle.exr_tools.specs.declared.stop.Stop.TheVariants.{NoMemory, Words, File, Read, Write, Request, Form}
+use Rattle.exr_tools.specs.declared.stop.Stop.TheVariants.{NoMemory, Words, File, Read, Write, Request}
 use Rattle.exr_tools.specs.declared.stop.FileFault.TheVariants as fault
 use Rattle.exr_tools.specs.Run.{with_head, IsWhole, HasFirstUnsound, IsBroken}
 use Rattle.exr_tools.proofs.Answered.{IsOne, IsNone, one_value, one_error, not_both}
@@ -65,7 +65,6 @@ seen i file (File m (fault.Chunk p k f)) due = unsound p k f (ap (λ n. File n (
 seen i file Read due = absurd due
 seen i file Write due = absurd due
 seen i file (Request r) due = absurd due
-seen i file Form due = absurd due
 
 same_seen : (i : ℕ) (file : List ℕ) (a b : Stop) → Seen i file a → Seen i file b → a ≡ b
 same_seen i file a b (no_head f is bad) (no_head g is' bad') =

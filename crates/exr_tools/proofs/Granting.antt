@@ -1,5 +1,5 @@
 -- What a grant says of its part, of the window and of the layout; and stops of what is asked.
-use Rattle.std.proofs.Common.{◌≡◌, ◌<◌, ◌≤◌, ◌^◌, ℕ, false, not, IsTrue, List, ◌++◌, take, drop, length, Ok, refl, sym, subst}
+use Rattle.std.proofs.Common.{◌≡◌, ◌<◌, ◌≤◌, ◌^◌, ℕ, true, false, not, inl, inr, IsTrue, List, ◌++◌, take, drop, length, Ok, refl, sym, subst}
 use Rattle.std.specs.Prelude.{int_lt}
 use Rattle.std.proofs.lemmas.Bool.{and_parts}
 use Rattle.std.proofs.lemmas.List.{take_at}
@@ -15,22 +15,23 @@ use Rattle.exr_layout.specs.Plan.{Matching}
 use Rattle.exr_layout.specs.Validation.{Frame}
 use Rattle.exr_base.specs.Boxes.{is_empty, is_inside, IsInside}
 use Rattle.exr_layout.specs.Plan.{IsPlanOf}
-use Rattle.exr_request.specs.declared.fault.RequestStop.{RequestStop}
-use Rattle.exr_request.specs.declared.fault.RequestStop.TheVariants as stops
+use Rattle.exr_request.specs.declared.fault.RequestFault.{RequestFault}
 use Rattle.exr_asked.specs.Demand.{Demand}
-use Rattle.exr_request.specs.Request.{is_window_of, window_asked, IsGranted, IsRefused, IsRefusal}
+use Rattle.exr_request.specs.Request.{is_window_of, window_asked, IsGranted, IsDeepGranted, IsRefused, IsRefusal}
 use Rattle.exr_request.proofs.Passed.{readable, matched}
 use Rattle.exr_block.specs.declared.fault.ChunkFault.{ChunkFault}
 use Rattle.exr_outside.specs.Source.{SourceMeaning}
 use Rattle.exr_stream.specs.Chunk.{Opened}
 use Rattle.exr_stream.specs.Stream.{StreamView, file_of, IsSameStream}
+use Rattle.exr_reader.specs.declared.deep.DeepStop.{DeepStop}
+use Rattle.exr_reader.specs.declared.deep.DeepStop.TheVariants as deep
 use Rattle.exr_reader.specs.declared.cause.ReadCause.{ReadCause}
 use Rattle.exr_reader.specs.declared.cause.ReadCause.TheVariants as why
 use Rattle.exr_reader.specs.Reading.{HasCause}
 use Rattle.exr_reader.specs.Window.{IsFirstFaultOf}
-use Rattle.exr_tools.specs.declared.stop.Stop.{Stop}
-use Rattle.exr_tools.specs.Stops.{stop_asked, stop_of_request, stop_of_reading}
-use Rattle.exr_tools.specs.Run.{with_head, chunks_asked, HasFirstFault, IsUnread, HasReason}
+use Rattle.exr_reader.specs.Deep.{HasDeepCause}
+use Rattle.exr_tools.specs.Stops.{stop_of_request, stop_of_reading, stop_of_deep}
+use Rattle.exr_tools.specs.Run.{with_head, chunks_asked, HasFirstFault, HasFirstDeepFault, HasTooMuch, IsUnread, HasReason}
 
 -- ---- windows
 
@@ -58,27 +59,35 @@ ground head d f plan granted =
     let window : window_asked d h ≡ f.window = sym granted.fit.arranged.window in
     record {
       there = r.there;
-      flat = subst (λ (x : Header). is_deep x.kind ≡ false) same r.flat;
+      flat = subst (λ (x : Header). is_deep x.kind ≡ false) same granted.flat;
       inside = subst (λ (x : Header). IsInside x.window f.window) same (inside_of h f.window (subst (λ w. IsTrue (is_window_of h w)) window r.within));
       planned = subst (λ (x : Header). IsPlanOf f x.channels plan) same granted.fit.planned;
       small = m.small;
     }
 
+-- the window of a deep part
+pub record IsDeepGround (head : Head) (d : Demand) (window : Box2i) : Type 0 where
+  pub there : d.part < length head.parts
+  pub deep : is_deep (header_at head.parts d.part).kind ≡ true
+  pub inside : IsInside (header_at head.parts d.part).window window
+
+pub deep_ground : (head : Head) (d : Demand) (window : Box2i) → IsDeepGranted head d window → IsDeepGround head d window
+deep_ground head d window granted =
+    let h = granted.part in
+    let r = readable head d h granted.asked in
+    let same : h ≡ header_at head.parts d.part = sym (r.here no_header) in
+    record {
+      there = r.there;
+      deep = subst (λ (x : Header). is_deep x.kind ≡ true) same granted.deep;
+      inside = subst (λ (x : Header). IsInside x.window window) same (inside_of h window (subst (λ w. IsTrue (is_window_of h w)) (sym granted.over) r.within));
+    }
+
 -- ---- stops
 
-asked_due : (why : RequestStop) (i : ℕ) (file : List ℕ) (d : Demand) (head : Head) (bytes : ℕ) → head_of file ≡ Ok (head, bytes) → IsRefused head d why → IsUnread (stop_asked why) i file d
-asked_due stops.Form i file d head bytes found refused = record { head = head; bytes = bytes; found = found; why = stops.Form; refused = refused; is = refl }
-asked_due (stops.Fault fault) i file d head bytes found refused = record { head = head; bytes = bytes; found = found; why = stops.Fault fault; refused = refused; is = refl }
-
-by_stop : (why : RequestStop) (P : Stop → Type 0) (T read : Type 0) → (T → P (stop_asked why)) → HasReason (stop_asked why) (λ _. ⊥) (λ due. T → P due) read ⊥
-by_stop stops.Form P T read due = due
-by_stop (stops.Fault fault) P T read due = due
-
 -- the reason of a request's refusal
-pub refused_reason : (r : Refusal RequestStop) (i : ℕ) (file : List ℕ) (d : Demand) (head : Head) (bytes : ℕ) (T read : Type 0) → (T → head_of file ≡ Ok (head, bytes)) → IsRefusal head d r
+pub refused_reason : (r : Refusal RequestFault) (i : ℕ) (file : List ℕ) (d : Demand) (head : Head) (bytes : ℕ) (T read : Type 0) → (T → head_of file ≡ Ok (head, bytes)) → IsRefusal head d r
     → HasReason (stop_of_request r) (λ _. ⊥) (λ due. T → IsUnread due i file d) read ⊥
-refused_reason (refusal.Fault why) i file d head bytes T read found refused =
-    by_stop why (λ due. IsUnread due i file d) T read (λ told. asked_due why i file d head bytes (found told) refused)
+refused_reason (refusal.Fault why) i file d head bytes T read found refused = λ told. inl (record { head = head; bytes = bytes; found = found told; refused = refused })
 refused_reason refusal.NoMemory i file d head bytes T read found refused = tt
 
 -- the reason of a cause of reading
@@ -87,7 +96,16 @@ pub reading_reason : (cause : ReadCause) (i part : ℕ) (file : List ℕ) (d : D
     → HasReason (stop_of_reading i part cause) (λ _. ⊥) (λ due. T → IsUnread due i file d) rose' ⊥
 reading_reason why.NoMemory i part file d T rose rose' P same up first has = tt
 reading_reason why.Read i part file d T rose rose' P same up first has = up has
-reading_reason (why.Chunk n f) i part file d T rose rose' P same up first has = λ told. (refl, (same, first n f has told))
+reading_reason (why.Chunk n f) i part file d T rose rose' P same up first has = λ told. (refl, (same, inl (first n f has told)))
+
+-- the reason of a stop of reading a deep part
+pub deep_reason : (stop : DeepStop) (i part : ℕ) (file : List ℕ) (d : Demand) (T rose rose' : Type 0) (P : ℕ → ChunkFault → Type 0) (Q : ℕ → Type 0) → part ≡ d.part → (rose → rose')
+    → ((n : ℕ) (f : ChunkFault) → P n f → T → HasFirstDeepFault file d n f) → ((n : ℕ) → Q n → T → HasTooMuch file d n) → HasDeepCause stop P Q rose
+    → HasReason (stop_of_deep i part stop) (λ _. ⊥) (λ due. T → IsUnread due i file d) rose' ⊥
+deep_reason deep.NoMemory i part file d T rose rose' P Q same up first large has = tt
+deep_reason deep.Read i part file d T rose rose' P Q same up first large has = up has
+deep_reason (deep.Chunk n f) i part file d T rose rose' P Q same up first large has = λ told. (refl, (same, inr (first n f has told)))
+deep_reason (deep.TooLarge n) i part file d T rose rose' P Q same up first large has = λ told. inr (large n has told)
 
 -- the first fault of a granted window
 pub first_of_window : (file : List ℕ) (head : Head) (bytes : ℕ) (d : Demand) (frame : Frame) (plan : Matching) (rank n : ℕ) (f : ChunkFault) → head_of file ≡ Ok (head, bytes) → IsGranted head d frame plan

@@ -4,7 +4,7 @@ use Rattle.std.proofs.Math.Seq.{take-length}
 use Rattle.exr_outside.specs.Count.{Rose}
 use Rattle.exr_outside.specs.Sink.{AddsPrefix}
 use Rattle.exr_tools.specs.declared.stop.Stop.{Stop}
-use Rattle.exr_tools.specs.declared.stop.Stop.TheVariants.{NoMemory, Words, File, Read, Write, Request, Form}
+use Rattle.exr_tools.specs.declared.stop.Stop.TheVariants.{NoMemory, Words, File, Read, Write, Request}
 use Rattle.exr_tools.specs.Scene.{Told, Scene}
 use Rattle.exr_tools.specs.Output.{Output, buffer_under, names_of, first_bytes, IsDone, Does, IsBegun, IsPrinting, IsLeft, Leaves}
 use Rattle.exr_tools.specs.Run.{HasReason}
@@ -85,7 +85,6 @@ left_behind Read t o before mid after same left = absurd left
 left_behind Write t o before mid after same (inl begun) = inl (begun_behind t o before mid after same begun)
 left_behind Write t o before mid after same (inr printing) = inr (printing_behind t o before mid after same printing)
 left_behind (Request r) t o before mid after same left = absurd left
-left_behind Form t o before mid after same left = absurd left
 
 pub does_behind : (r : Result (Unit {0}) Stop) (t : Told) (gives : Output → Type 0) (o : Output) (before mid after : Scene) → IsSame t before mid → (IsTrue t.sources → gives o) → OnOk r (IsDone t o mid after)
     → OnOk r (Does t gives before after)

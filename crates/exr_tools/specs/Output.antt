@@ -3,7 +3,7 @@ use Rattle.std.specs.Prelude.{◌≡◌, ◌≢◌, ◌⊎◌, ℕ, IsTrue, List
 use Rattle.exr_outside.specs.Count.{Rose}
 use Rattle.exr_outside.specs.Sink.{AddsPrefix}
 use Rattle.exr_tools.specs.declared.stop.Stop.{Stop}
-use Rattle.exr_tools.specs.declared.stop.Stop.TheVariants.{NoMemory, Words, File, Read, Write, Request, Form}
+use Rattle.exr_tools.specs.declared.stop.Stop.TheVariants.{NoMemory, Words, File, Read, Write, Request}
 use Rattle.exr_tools.specs.Scene.{Told, Scene}
 use Rattle.exr_tools.specs.Texts.{extract_line}
 
@@ -68,7 +68,6 @@ IsLeft (Words position) t o before after = ⊥
 IsLeft (File file f) t o before after = ⊥
 IsLeft Read t o before after = ⊥
 IsLeft (Request r) t o before after = ⊥
-IsLeft Form t o before after = ⊥
 
 -- an output that is given, as far as a stop leaves it
 pub record LeavesPart (stop : Stop) (t : Told) (gives : Output → Type 0) (before after : Scene) : Type 0 where

@@ -1,5 +1,6 @@
 -- What the top call leaves, and why it stops.
-use Rattle.std.specs.Prelude.{◌≡◌, ◌⊎◌, ℕ, List, [], ◌∷◌, ◌++◌, length, take, replicate, unwrap_or, Result, Ok, Err, MatchResult}
+use Rattle.std.specs.Prelude.{◌≡◌, ◌⊎◌, ℕ, List, [], ◌∷◌, ◌++◌, length, map, take, replicate, unwrap_or, Result, Ok, Err, MatchResult}
+use Rattle.std.specs.List.{range_with_len}
 use Rattle.exr_header.specs.Head.{Head, head_of}
 use Rattle.exr_header.specs.Show.{head_text}
 use Rattle.exr_asked.specs.Choices.{Choices}
@@ -7,21 +8,25 @@ use Rattle.exr_asked.specs.Demand.{Demand, demand_in}
 use Rattle.exr_words.specs.Command.{Command, header, check, extract, first_of}
 use Rattle.exr_words.specs.Words.{command_of}
 use Rattle.exr_tools.specs.declared.stop.Stop.{Stop}
-use Rattle.exr_tools.specs.declared.stop.Stop.TheVariants.{NoMemory, Words, File, Read, Write, Request, Form}
+use Rattle.exr_tools.specs.declared.stop.Stop.TheVariants.{NoMemory, Words, File, Read, Write, Request}
 use Rattle.exr_tools.specs.declared.stop.FileFault.TheVariants as fault
+use Rattle.exr_base.specs.declared.shape.Box2i.{Box2i}
 use Rattle.exr_block.specs.declared.fault.ChunkFault.{ChunkFault}
+use Rattle.exr_image.specs.Bytes.{bytes_in}
+use Rattle.exr_image.specs.Image.{counts_over, samples_over}
 use Rattle.exr_chunks.specs.Region.{header_at}
 use Rattle.exr_chunks.specs.Window.{chunks_of_window}
 use Rattle.exr_layout.specs.Plan.{Matching}
 use Rattle.exr_layout.specs.Validation.{Frame}
-use Rattle.exr_request.specs.declared.fault.RequestStop.{RequestStop}
-use Rattle.exr_request.specs.Request.{IsGranted, IsRefused}
-use Rattle.exr_stream.specs.Chunk.{Opened}
+use Rattle.exr_request.specs.declared.fault.RequestFault.{RequestFault}
+use Rattle.exr_request.specs.declared.fault.RequestFault.TheVariants.{DeepTooLarge}
+use Rattle.exr_request.specs.Request.{IsGranted, IsDeepGranted, IsRefused}
+use Rattle.exr_stream.specs.Chunk.{Opened, header_in}
 use Rattle.exr_reader.specs.Window.{Target, IsFilled, HaveDataOf, IsFirstFaultOf}
+use Rattle.exr_reader.specs.Deep.{pixels_in, AreSmall, IsDeepFault, IsTooLarge}
 use Rattle.exr_reader.specs.Check.{unread_counts, IsSoundFile, IsFirstUnsound}
 use Rattle.exr_tools.specs.Output.{Output, text_alone, buffer_under, Does}
 use Rattle.exr_tools.specs.Scene.{Told, Scene}
-use Rattle.exr_tools.specs.Stops.{stop_asked}
 use Rattle.exr_tools.specs.Texts.{report_of}
 
 -- ---- what is asked of a file
@@ -38,9 +43,18 @@ with_head file head bytes = record { content = file; head = head; head_bytes = b
 abbrev pub target_in : Opened → Demand → Frame → Matching → Target
 target_in file d frame plan = record { file = file; part = d.part; frame = frame; places = plan.channels }
 
--- the chunks that the window of a frame meets
+-- the chunks of that part that a window meets, and the window of a frame
+abbrev pub chunks_over : Head → Demand → Box2i → List ℕ
+chunks_over head d window = chunks_of_window (header_at head.parts d.part) window
+
 abbrev pub chunks_asked : Head → Demand → Frame → List ℕ
-chunks_asked head d frame = chunks_of_window (header_at head.parts d.part) frame.window
+chunks_asked head d frame = chunks_over head d frame.window
+
+-- the bytes of the image of a window of a deep part: the counts, then of each channel all samples
+abbrev pub image_bytes : Opened → ℕ → Box2i → List ℕ
+image_bytes file part window =
+    bytes_in (counts_over (pixels_in file part) window)
+    (map (samples_over (pixels_in file part) window) (range_with_len 0 (length (header_in file part).channels)))
 
 -- ---- what a command gives
 
@@ -63,8 +77,8 @@ pub record IsReport (file report : List ℕ) : Type 0 where
   pub of : IsWhole file
   pub shown : report ≡ report_of of.head.parts (unread_counts (with_head file of.head of.bytes))
 
--- the head of a file grants what is asked for, and each chunk that its window meets has data
-pub record IsReadable (file : List ℕ) (d : Demand) : Type 0 where
+-- the head of a file grants what is asked of a flat part, and each chunk that its window meets has content
+pub record IsFlatReadable (file : List ℕ) (d : Demand) : Type 0 where
   pub head : Head
   pub bytes : ℕ
   pub found : head_of file ≡ Ok (head, bytes)
@@ -73,11 +87,32 @@ pub record IsReadable (file : List ℕ) (d : Demand) : Type 0 where
   pub granted : IsGranted head d frame plan
   pub chunks : HaveDataOf (with_head file head bytes) d.part (chunks_asked head d frame) (length (chunks_asked head d frame))
 
+-- it grants what is asked of a deep part, each chunk that its window meets has content, and these are not too many bytes
+pub record IsDeepReadable (file : List ℕ) (d : Demand) : Type 0 where
+  pub head : Head
+  pub bytes : ℕ
+  pub found : head_of file ≡ Ok (head, bytes)
+  pub window : Box2i
+  pub granted : IsDeepGranted head d window
+  pub chunks : HaveDataOf (with_head file head bytes) d.part (chunks_over head d window) (length (chunks_over head d window))
+  pub small : AreSmall (with_head file head bytes) d.part window (chunks_over head d window) (length (chunks_over head d window))
+
+abbrev pub IsReadable : List ℕ → Demand → Type 0
+IsReadable file d = IsFlatReadable file d ⊎ IsDeepReadable file d
+
 -- the buffer holds the samples of the window in their places, and elsewhere the byte that all begin as
-pub record IsExtracted (file : List ℕ) (d : Demand) (byte : ℕ) (buffer : List ℕ) : Type 0 where
-  pub from : IsReadable file d
+pub record IsFlatExtracted (file : List ℕ) (d : Demand) (byte : ℕ) (buffer : List ℕ) : Type 0 where
+  pub from : IsFlatReadable file d
   pub size : length buffer ≡ from.frame.buffer
   pub filled : IsFilled (target_in (with_head file from.head from.bytes) d from.frame from.plan) (replicate from.frame.buffer byte) buffer
+
+-- the buffer holds the image of the window
+pub record IsDeepExtracted (file : List ℕ) (d : Demand) (buffer : List ℕ) : Type 0 where
+  pub from : IsDeepReadable file d
+  pub image : buffer ≡ image_bytes (with_head file from.head from.bytes) d.part from.window
+
+abbrev pub IsExtracted : List ℕ → Demand → ℕ → List ℕ → Type 0
+IsExtracted file d byte buffer = IsFlatExtracted file d byte buffer ⊎ IsDeepExtracted file d buffer
 
 -- the text of a file's head, and no file
 pub record GivesText (file : List ℕ) (o : Output) : Type 0 where
@@ -131,15 +166,13 @@ IsBroken (File number (fault.Chunk p i f)) input file = (number ≡ input) × Ha
 IsBroken stop input file = ⊥
 
 -- the head of a file does not grant what is asked for
-pub record IsRefusedBy (stop : Stop) (file : List ℕ) (d : Demand) : Type 0 where
+pub record IsRefusedBy (why : RequestFault) (file : List ℕ) (d : Demand) : Type 0 where
   pub head : Head
   pub bytes : ℕ
   pub found : head_of file ≡ Ok (head, bytes)
-  pub why : RequestStop
   pub refused : IsRefused head d why
-  pub is : stop ≡ stop_asked why
 
--- the first fault of the chunks that a window meets
+-- the first fault of the chunks that a window of a flat part meets
 pub record HasFirstFault (file : List ℕ) (d : Demand) (index : ℕ) (f : ChunkFault) : Type 0 where
   pub head : Head
   pub bytes : ℕ
@@ -150,12 +183,35 @@ pub record HasFirstFault (file : List ℕ) (d : Demand) (index : ℕ) (f : Chunk
   pub rank : ℕ
   pub first : IsFirstFaultOf (with_head file head bytes) d.part (chunks_asked head d frame) rank index f
 
--- the stop is that of a fault of such a head, of what is asked of it, or of the window's first chunk with a fault
+-- the first of a window of a deep part, before which there are not too many bytes
+pub record HasFirstDeepFault (file : List ℕ) (d : Demand) (index : ℕ) (f : ChunkFault) : Type 0 where
+  pub head : Head
+  pub bytes : ℕ
+  pub window : Box2i
+  pub found : head_of file ≡ Ok (head, bytes)
+  pub granted : IsDeepGranted head d window
+  pub first : IsDeepFault (with_head file head bytes) d.part window (chunks_over head d window) index f
+
+-- the first chunk of such a window with which there are too many bytes
+pub record HasTooMuch (file : List ℕ) (d : Demand) (index : ℕ) : Type 0 where
+  pub head : Head
+  pub bytes : ℕ
+  pub window : Box2i
+  pub found : head_of file ≡ Ok (head, bytes)
+  pub granted : IsDeepGranted head d window
+  pub large : IsTooLarge (with_head file head bytes) d.part window (chunks_over head d window) index
+
+abbrev pub IsTooMuch : RequestFault → List ℕ → Demand → Type 0
+IsTooMuch (DeepTooLarge index) file d = HasTooMuch file d index
+IsTooMuch why file d = ⊥
+
+-- the stop is that of a fault of such a head, of what is asked of it, or of the window's first chunk with a fault, or that of
+-- the chunk with which a deep part has too many bytes
 abbrev pub IsUnread : Stop → ℕ → List ℕ → Demand → Type 0
 IsUnread (File number (fault.Head f)) input file d = (number ≡ input) × (head_of file ≡ Err f)
-IsUnread (File number (fault.Chunk p i f)) input file d = (number ≡ input) × ((p ≡ d.part) × HasFirstFault file d i f)
-IsUnread (Request r) input file d = IsRefusedBy (Request r) file d
-IsUnread Form input file d = IsRefusedBy Form file d
+IsUnread (File number (fault.Chunk p i f)) input file d = 
+    (number ≡ input) × ((p ≡ d.part) × (HasFirstFault file d i f ⊎ HasFirstDeepFault file d i f))
+IsUnread (Request r) input file d = IsRefusedBy r file d ⊎ IsTooMuch r file d
 IsUnread stop input file d = ⊥
 
 -- the stop that the input of a command calls for
@@ -178,7 +234,6 @@ HasReason (File file f) words due read write = due (File file f)
 HasReason Read words due read write = read
 HasReason Write words due read write = write
 HasReason (Request r) words due read write = due (Request r)
-HasReason Form words due read write = due Form
 
 -- a stop other than want of memory owes one of two rises
 abbrev pub OwesRise : Stop → Type 0 → Type 0 → Type 0

@@ -7,7 +7,7 @@ use Rattle.exr_attributes.specs.Fault.{number_of as head_number_of}
 use Rattle.exr_block.specs.Fault.{number_of as chunk_number_of}
 use Rattle.exr_request.specs.Fault.{request_number_of}
 use Rattle.exr_tools.specs.declared.stop.Stop.{Stop}
-use Rattle.exr_tools.specs.declared.stop.Stop.TheVariants.{NoMemory, Words, File, Read, Write, Request, Form}
+use Rattle.exr_tools.specs.declared.stop.Stop.TheVariants.{NoMemory, Words, File, Read, Write, Request}
 use Rattle.exr_tools.specs.declared.stop.FileFault.{FileFault}
 use Rattle.exr_tools.specs.declared.stop.FileFault.TheVariants.{Head, Chunk}
 
@@ -37,7 +37,6 @@ status_of (File file fault) = 3
 status_of Read = 4
 status_of Write = 5
 status_of (Request fault) = 6
-status_of Form = 7
 
 -- the line of a fault of a file
 abbrev pub file_line_of : ℕ → FileFault → List ℕ
@@ -53,4 +52,3 @@ line_of (File file fault) = file_line_of file fault
 line_of Read = codes "exr: read fault" ++ 10 ∷ []
 line_of Write = codes "exr: write fault" ++ 10 ∷ []
 line_of (Request fault) = codes "exr: request fault " ++ (decimal (request_number_of fault) ++ 10 ∷ [])
-line_of Form = codes "exr: form" ++ 10 ∷ []

@@ -5,21 +5,21 @@ ghost use Rattle.std.specs.Prelude.{◌≡◌, ◌++◌, [], ◌∷◌, ◌≤�
 ghost use Rattle.exr_outside.specs.Count.{Rose};
 ghost use Rattle.exr_outside.specs.Source.{IsSameSource};
 ghost use Rattle.exr_stream.specs.Stream.{HasHead, IsSameStream};
-ghost use Rattle.exr_tools.specs.Stops.{stop_of_reading};
+ghost use Rattle.exr_tools.specs.Stops.{stop_of_reading, stop_of_deep};
 ghost use Rattle.exr_asked.specs.Choices.{choices_in, AreWithin};
 ghost use Rattle.exr_asked.specs.Demand.{demand_of, demand_in, IsModest};
-ghost use Rattle.exr_request.specs.Request.{IsGranted};
+ghost use Rattle.exr_request.specs.Request.{IsGranted, IsDeepGranted};
 ghost use Rattle.exr_tools.specs.Output.{buffer_under, IsDone, IsLeft, Does, Leaves};
-ghost use Rattle.exr_tools.specs.Run.{byte_in, IsExtracted, GivesBuffer, IsUnread, HasReason, AsksAtMost, KeepsAtMost, KeepsFirst};
+ghost use Rattle.exr_tools.specs.Run.{byte_in, IsFlatExtracted, IsDeepExtracted, IsExtracted, GivesBuffer, IsUnread, HasReason, AsksAtMost, KeepsAtMost, KeepsFirst};
 ghost use Rattle.exr_tools.specs.Scene.{told_of, scene_of};
 
 use crate::print::print;
 use crate::stop::{FileFault, Stop, opening_stop};
 use exr_asked::{Asked, Choices};
-use exr_base::{Failed, Refusal};
+use exr_base::{Box2i, Failed, Refusal};
 use exr_outside::{Files, Gate, Printer, Sink, Source, World, append_all};
-use exr_reader::{ReadCause, ReadStop, Target, Work, read_chunks, read_first};
-use exr_request::{Granted, request};
+use exr_reader::{DeepStop, ReadCause, ReadStop, Target, Work, read_chunks, read_deep, read_first};
+use exr_request::{Fitted, Granted, RequestFault, request};
 use exr_stream::{OpenStop, Stream};
 use std::alloc::Global;
 use std::thread::Threads;
@@ -35,6 +35,21 @@ fn stop_of(file: u32, part: u32, cause: ReadCause) -> Stop
             file,
             fault: FileFault::Chunk { part, index, fault },
         },
+    }
+}
+
+/// The stop of what reading a window of a deep part of an input stops at.
+fn deep_stop_of(file: u32, part: u32, stop: DeepStop) -> Stop
+    ensures { result ≡ stop_of_deep file part stop }
+{
+    match stop {
+        DeepStop::NoMemory => Stop::NoMemory,
+        DeepStop::Read => Stop::Read,
+        DeepStop::Chunk { index, fault } => Stop::File {
+            file,
+            fault: FileFault::Chunk { part, index, fault },
+        },
+        DeepStop::TooLarge { index } => Stop::Request(RequestFault::DeepTooLarge { index }),
     }
 }
 
@@ -66,15 +81,25 @@ impl Extraction {
             asked: Asked::new(choices),
         }
     }
+
+    /// How it is read.
+    fn work(&self) -> Work
+        ensures { result.round ≡ self.now.workers }
+    {
+        Work {
+            workers: self.workers,
+            round: self.workers,
+        }
+    }
 }
 
-/// Fills the buffer of what was granted with the samples of a stream's file. The first chunk is read before memory for the buffer is
-/// asked for, so that a small file which claims a large picture takes little.
+/// Fills the buffer of what was granted with the samples of a stream's file. The first chunk is read before memory for the
+/// buffer is asked for, so that a small file which claims a large picture takes little.
 fn filled<R: Threads + Sync, W: World, S: Source, G: Gate>(
     rt: &R,
     alloc: Global,
     stream: &mut Stream<W, S>,
-    granted: &Granted,
+    granted: &Fitted,
     extraction: &Extraction,
     gate: &G,
 ) -> Result<Vec<u8>, Stop>
@@ -82,7 +107,7 @@ fn filled<R: Threads + Sync, W: World, S: Source, G: Gate>(
     requires head { HasHead S.means stream.old }
     requires granted { IsGranted stream.old.head (demand_of extraction.now.asked) granted.now.layout granted.now.plan }
     ensures buffer { IsTrue S.means.tells → IfOk result (λ buffer.
-        IsExtracted (S.means.content stream.old.source) (demand_of extraction.now.asked) extraction.now.byte buffer.items) }
+        IsFlatExtracted (S.means.content stream.old.source) (demand_of extraction.now.asked) extraction.now.byte buffer.items) }
     ensures same { IsSameStream S.means stream.old stream.new }
     ensures later { S.means.faults stream.old.source ≤ S.means.faults stream.new.source }
     ensures reason { IfErr result (λ stop. HasReason stop (λ _. ⊥)
@@ -100,10 +125,7 @@ fn filled<R: Threads + Sync, W: World, S: Source, G: Gate>(
                 layout,
                 plan: &granted.plan,
             };
-            let work = Work {
-                workers: extraction.workers,
-                round: extraction.workers,
-            };
+            let work = extraction.work();
             match read_chunks(
                 rt,
                 alloc,
@@ -122,7 +144,33 @@ fn filled<R: Threads + Sync, W: World, S: Source, G: Gate>(
     }
 }
 
-/// The buffer of what is asked of a stream's file.
+/// The image of the window of a deep part of a stream's file, as bytes.
+fn imaged<R: Threads + Sync, W: World, S: Source, G: Gate>(
+    rt: &R,
+    alloc: Global,
+    stream: &mut Stream<W, S>,
+    window: Box2i,
+    extraction: &Extraction,
+    gate: &G,
+) -> Result<Vec<u8>, Stop>
+    requires head { HasHead S.means stream.old }
+    requires granted { IsDeepGranted stream.old.head (demand_of extraction.now.asked) window }
+    ensures buffer { IsTrue S.means.tells → IfOk result (λ buffer.
+        IsDeepExtracted (S.means.content stream.old.source) (demand_of extraction.now.asked) buffer.items) }
+    ensures same { IsSameStream S.means stream.old stream.new }
+    ensures later { S.means.faults stream.old.source ≤ S.means.faults stream.new.source }
+    ensures reason { IfErr result (λ stop. HasReason stop (λ _. ⊥)
+        (λ due. IsTrue S.means.tells → IsUnread due extraction.now.file (S.means.content stream.old.source) (demand_of extraction.now.asked))
+        (Rose (S.means.faults stream.old.source) (S.means.faults stream.new.source)) ⊥) }
+{
+    let part = extraction.asked.part;
+    match read_deep(rt, alloc, stream, part, window, extraction.work(), gate) {
+        Ok(image) => Ok(image.bytes(alloc)?),
+        Err(stop) => Err(deep_stop_of(extraction.file, part, stop)),
+    }
+}
+
+/// The bytes of what is asked of a stream's file: a buffer, or the image of a deep part.
 fn stream_buffer<R: Threads + Sync, W: World, S: Source, G: Gate>(
     rt: &R,
     alloc: Global,
@@ -142,7 +190,8 @@ fn stream_buffer<R: Threads + Sync, W: World, S: Source, G: Gate>(
         (Rose (S.means.faults stream.old.source) (S.means.faults stream.new.source)) ⊥) }
 {
     match request(alloc, stream.head(), &extraction.asked) {
-        Ok(granted) => filled(rt, alloc, stream, &granted, extraction, gate),
+        Ok(Granted::Flat(granted)) => filled(rt, alloc, stream, &granted, extraction, gate),
+        Ok(Granted::Deep(window)) => imaged(rt, alloc, stream, window, extraction, gate),
         Err(refusal) => Err(Stop::from(refusal)),
     }
 }

@@ -9,7 +9,7 @@ use exr_attributes::HeaderFault;
 use exr_base::{NoMemory, Refusal};
 use exr_block::ChunkFault;
 use exr_opening::OpenFault;
-use exr_request::{RequestFault, RequestStop};
+use exr_request::RequestFault;
 use exr_words::WordFault;
 use std::alloc::{AllocError, AllocFailed, Global};
 use thiserror::Error;
@@ -50,9 +50,6 @@ pub enum Stop {
     /// What is asked of a file cannot be had.
     #[error("request fault: {0}")]
     Request(RequestFault),
-    /// A kind of part that is not supported so far: it is deep.
-    #[error("form")]
-    Form,
 }
 
 impl Stop {
@@ -67,7 +64,6 @@ impl Stop {
             Stop::Read => 4,
             Stop::Write => 5,
             Stop::Request(_) => 6,
-            Stop::Form => 7,
         }
     }
 }
@@ -86,7 +82,6 @@ pub fn stop_line(alloc: Global, stop: &Stop) -> Result<Vec<u8>, NoMemory>
             let number = fault.number();
             format!(in alloc; "exr: request fault {number}\n")?
         }
-        Stop::Form => format!(in alloc; "exr: form\n")?,
     };
     Ok(line.into_bytes())
 }
@@ -140,13 +135,12 @@ impl From<Refusal<WordFault>> for Stop {
     }
 }
 
-impl From<Refusal<RequestStop>> for Stop {
+impl From<Refusal<RequestFault>> for Stop {
     ghost from_gives = { λ refusal e. e ≡ stop_of_request refusal };
 
-    fn from(refusal: Refusal<RequestStop>) -> Stop {
+    fn from(refusal: Refusal<RequestFault>) -> Stop {
         match refusal {
-            Refusal::Fault(RequestStop::Form) => Stop::Form,
-            Refusal::Fault(RequestStop::Fault(fault)) => Stop::Request(fault),
+            Refusal::Fault(fault) => Stop::Request(fault),
             Refusal::NoMemory => Stop::NoMemory,
         }
     }

@@ -9,8 +9,16 @@ use Rattle.exr_chunks.specs.Region.{header_at}
 use Rattle.exr_stream.specs.Stream.{file_of}
 use Rattle.exr_reader.specs.Window.{AreChunks, HaveDataOf}
 use Rattle.exr_reader.specs.Deep.{AreDeepChunks, pixels_in}
-use Rattle.exr_reader.proofs.Deepening.{covering, some_chunk, all_from}
+use Rattle.exr_reader.proofs.Deepening.{region_in, covering, some_chunk, all_from}
 use Rattle.exr_reader.proofs.deep.read_deep.Goals as goal
+
+pub read_deep_chunks-read-requires-clause-window : goal.read_deep_chunks-read-requires-clause-window
+read_deep_chunks-read-requires-clause-window g c κs within =
+    region_in (header_at c.args.stream.now.head.parts c.args.part) c.args.window c.window_chunks.ensures.picture c.requires.inside
+
+pub image_of-requires-clause-window : goal.image_of-requires-clause-window
+image_of-requires-clause-window g c =
+    region_in (header_at c.args.stream.now.head.parts c.args.part) c.args.window c.window_chunks.ensures.picture c.requires.inside
 
 pub image_of-requires-clause-small : goal.image_of-requires-clause-small
 image_of-requires-clause-small g c =

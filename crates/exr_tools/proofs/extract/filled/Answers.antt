@@ -8,7 +8,7 @@ use Rattle.exr_chunks.specs.Window.{chunks_of_window}
 use Rattle.exr_layout.specs.Plan.{IsPlanOf}
 use Rattle.exr_asked.specs.Demand.{demand_of}
 use Rattle.exr_reader.specs.Window.{IsFilled, HaveDataOf}
-use Rattle.exr_tools.specs.Run.{with_head, target_in, IsExtracted}
+use Rattle.exr_tools.specs.Run.{with_head, target_in, IsFlatExtracted}
 use Rattle.exr_tools.proofs.Granting.{ground, given_back, carried_back}
 use Rattle.exr_tools.proofs.extract.filled.Goals as goal
 
@@ -54,7 +54,7 @@ returns-in-Ok-read_chunks-clause-buffer g c = λ told.
     c.deref.ensures.value ∙ c.in-Ok.ensures.chunks ∙ ap (chunks_of_window (header_at s.head.parts d.part)) c.window.ensures.value in
     let filled = carried_back means s t (λ o. IsFilled (target_in o d f plan) old new) c.read_first.ensures.same told (c.in-Ok-read_chunks.ensures.filled told) in
     let chunks = carried_back means s t (λ o. HaveDataOf o d.part listed (length listed)) c.read_first.ensures.same told (c.in-Ok-read_chunks.ensures.chunks told) in
-    subst (IsExtracted file d c.args.extraction.now.byte) (sym (given_back new c.in_ok-buffer-in-Ok.buffer.items c.in_ok-buffer-in-Ok.buffer.len (search rules)))
+    subst (IsFlatExtracted file d c.args.extraction.now.byte) (sym (given_back new c.in_ok-buffer-in-Ok.buffer.items c.in_ok-buffer-in-Ok.buffer.len (search rules)))
     (record {
       from = record {
         head = s.head;

@@ -7,7 +7,7 @@ use Rattle.exr_words.specs.Words.{texts_of, command_of}
 use Rattle.exr_tools.specs.Run.{IsUnread, IsBroken, IsWhole, IsDue, IsSound, IsReadable}
 use Rattle.exr_tools.proofs.Answered.{one_value, stops_or, stops_or_wider, owes_or, owes_or_wider}
 use Rattle.exr_tools.proofs.Broken.{broken_alone, whole_not_broken}
-use Rattle.exr_tools.proofs.Due.{due_alone, read_not_due}
+use Rattle.exr_tools.proofs.Due.{due_alone, read_not_due, extracted_read}
 use Rattle.exr_tools.proofs.top.run.Goals as goal
 
 pub returns-in-Extract-clause-due : goal.returns-in-Extract-clause-due
@@ -22,7 +22,7 @@ returns-in-Extract-clause-due g c = λ told command due order is.
     let i = c.new-extraction.result.file in
     let file = files c.first-in-Extract.result.now in
     let d = demand_of c.new-extraction.result.asked in
-    stops_or c.extract.result (λ x. IsUnread x i file d) due _ _ _ _ (due_alone i file d) (λ w x. read_not_due i file d x (w.given told).extracted.from) told
+    stops_or c.extract.result (λ x. IsUnread x i file d) due _ _ _ _ (due_alone i file d) (λ w x. let given = w.given told in read_not_due i file d x (extracted_read file d c.new-extraction.result.byte given.buffer given.extracted)) told
     c.extract.ensures.done c.extract.ensures.reason here
 
 pub returns-in-Extract-clause-complete : goal.returns-in-Extract-clause-complete
