@@ -141,9 +141,10 @@ fn take_front(
     count + front.count as usize
 }
 
-/// Takes four fronts. Gives how many words there are then, and whether the last front had any.
+/// Takes five fronts, or those up to the first one that has no words. Gives how many words there are then, and whether
+/// each front had some.
 #[inline(always)]
-fn take_four(
+fn take_five(
     words: &mut [u16],
     count: usize,
     window: &mut Window<'_>,
@@ -155,9 +156,9 @@ fn take_four(
     requires fronts { AreFronts least decoder.now fronts.now }
     requires size { length fronts.now ≡ 4096 }
     requires there { bits ≤ 8 * length window.old.bytes.now }
-    requires within { window.old.at + 48 ≤ bits }
+    requires within { window.old.at + 60 ≤ bits }
     requires few { bits < 2 ^ 32 }
-    requires room { count + 8 ≤ length words.old }
+    requires room { count + 10 ≤ length words.old }
     ensures read { (wanted : ℕ) (all : List Bool) → length words.old ≤ wanted → HasRead least decoder.now wanted all (data_rest window.old.bytes.now bits window.old.at) (take count words.old) → HasRead least decoder.now wanted all (data_rest window.new.bytes.now bits window.new.at) (take result.0 words.new) }
     ensures bytes { window.new.bytes.now ≡ window.old.bytes.now }
     ensures from { window.old.at ≤ window.new.at }
@@ -168,13 +169,26 @@ fn take_four(
 {
     window.refill();
     let one = take_front(words, count, window, bits, fronts, decoder, least);
+    if one == count {
+        return (one, false);
+    }
     let two = take_front(words, one, window, bits, fronts, decoder, least);
+    if two == one {
+        return (two, false);
+    }
     let three = take_front(words, two, window, bits, fronts, decoder, least);
+    if three == two {
+        return (three, false);
+    }
     let four = take_front(words, three, window, bits, fronts, decoder, least);
-    (four, three < four)
+    if four == three {
+        return (four, false);
+    }
+    let five = take_front(words, four, window, bits, fronts, decoder, least);
+    (five, four < five)
 }
 
-/// Writes words from word `count` on, by four fronts at a time, until a run or a longer code comes or an end is near.
+/// Writes words from word `count` on, by five fronts at a time, until a run or a longer code comes or an end is near.
 /// Gives how many words there are then.
 #[inline(always)]
 pub(crate) fn take_fronts(
@@ -200,8 +214,8 @@ pub(crate) fn take_fronts(
 {
     let mut count = count;
     let mut going = fronts.len() == FRONTS;
-    'rounds: while going && words.len() - count >= 8 && bits - window.at >= 48 {
-        let (after, more) = take_four(words, count, window, bits, fronts, decoder, least);
+    'rounds: while going && words.len() - count >= 10 && bits - window.at >= 60 {
+        let (after, more) = take_five(words, count, window, bits, fronts, decoder, least);
         count = after;
         going = more;
     }

@@ -1,7 +1,7 @@
 use Rattle.std.proofs.Common.{get_or, sym, ap, ◌∙◌, arith}
 use Rattle.std.specs.Int.{w16, to_le_bytes}
 use Rattle.exr_piz.proofs.Spelling.{bytes_none, bytes_more, bytes_all}
-use Rattle.exr_piz.proofs.words.put_bytes.Goals as goal
+use Rattle.exr_piz.proofs.words.put_compared.Goals as goal
 
 pub loop-k-init : goal.loop-k-init
 loop-k-init c = sym bytes_none
