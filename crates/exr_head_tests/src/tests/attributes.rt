@@ -9,24 +9,6 @@ use exr_fixtures::put_attribute;
 use std::alloc::Global;
 use std::test::Fail;
 
-const LONG: [u8; 256] = [b'a'; 256];
-
-#[test]
-fn names_have_1_to_255_bytes(rt: HostRuntime) -> Result<(), Fail> {
-    for (bytes, is_name) in [
-        (&LONG[..0], false),
-        (&LONG[..1], true),
-        (&LONG[..255], true),
-        (&LONG, false),
-        (b"a\0b", false),
-        (b"\xff ", true),
-    ] {
-        let name = PackedName::new(rt.alloc(), bytes)?;
-        assert_eq!(rt; name.is_some(), is_name, "{} bytes", bytes.len());
-    }
-    Ok(())
-}
-
 /// How many attributes a header has and how many bytes follow it, or its first fault. What is read is written back.
 fn outcome_of(alloc: Global, bytes: &[u8]) -> Result<Result<(usize, usize), HeaderFault>, Fail> {
     let mut from = Cursor::new(bytes);
@@ -91,12 +73,12 @@ const CASES: &[Case] = &[
 #[test]
 fn headers(rt: HostRuntime) -> Result<(), Fail> {
     for (bytes, outcome) in CASES {
-        assert_eq!(rt; outcome_of(rt.alloc(), bytes)?, *outcome, "{bytes:?}");
+        assert!(rt; outcome_of(rt.alloc(), bytes)? == *outcome);
     }
     for len in 0..TWO.len() {
         let front = TWO.get(..len).ok_or("a front")?;
         let ends = HeaderFault::Truncated { at: len as u64 };
-        assert_eq!(rt; outcome_of(rt.alloc(), front)?, Err(ends));
+        assert!(rt; outcome_of(rt.alloc(), front)? == Err(ends));
     }
     Ok(())
 }
@@ -117,7 +99,7 @@ fn long_names(rt: HostRuntime) -> Result<(), Fail> {
         for byte in bytes.iter_mut().skip(zero.unwrap_or(*len)).take(1) {
             *byte = 0;
         }
-        assert_eq!(rt; outcome_of(rt.alloc(), &bytes)?, Err(*fault));
+        assert!(rt; outcome_of(rt.alloc(), &bytes)? == Err(*fault));
     }
     Ok(())
 }
@@ -135,7 +117,7 @@ fn a_header_of_16_mib(rt: HostRuntime) -> Result<(), Fail> {
         let value = vec![in rt.alloc(); 0u8; size]?;
         put_attribute(&mut bytes, b"a", b"t", &value)?;
         bytes.push(0)?;
-        assert_eq!(rt; outcome_of(rt.alloc(), &bytes)?, outcome);
+        assert!(rt; outcome_of(rt.alloc(), &bytes)? == outcome);
     }
     Ok(())
 }
@@ -206,8 +188,8 @@ fn a_map_is_its_list(rt: HostRuntime) -> Result<(), Fail> {
         let before = map.copy(rt.alloc())?;
         let kept = listed(rt.alloc(), &before)?;
         take_step(rt.alloc(), &mut map, *step)?;
-        assert_eq!(rt; listed(rt.alloc(), &map)?.as_slice(), *list);
-        assert_eq!(rt; listed(rt.alloc(), &before)?, kept);
+        assert!(rt; listed(rt.alloc(), &map)?.as_slice() == *list);
+        assert!(rt; listed(rt.alloc(), &before)? == kept);
         assert!(rt; map.at(map.len()).is_none() && map.find(b"t").is_none());
     }
     Ok(())

@@ -340,7 +340,7 @@ fn first_faults(rt: HostRuntime) -> Result<(), Fail> {
     for cases in [FRONTS, PARTS] {
         for (head, edits, fault) in cases {
             let bytes = spell_edited(rt.alloc(), *head, edits)?;
-            assert_eq!(rt; fault_of(rt.alloc(), &bytes)?, *fault, "{fault:?}");
+            assert!(rt; fault_of(rt.alloc(), &bytes)? == *fault);
         }
     }
     Ok(())

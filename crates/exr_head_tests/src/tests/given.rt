@@ -119,7 +119,7 @@ fn heads_of_given_parts(rt: HostRuntime) -> Result<(), Fail> {
             Ok(head) => Ok(spell(rt.alloc(), *head)?),
             Err(fault) => Err(*fault),
         };
-        assert_eq!(rt; made(rt.alloc(), *multi, parts)?, expected);
+        assert!(rt; made(rt.alloc(), *multi, parts)? == expected);
     }
     Ok(())
 }
@@ -154,19 +154,13 @@ fn the_most_parts_and_channels(rt: HostRuntime) -> Result<(), Fail> {
             channels.push(ChannelSpec { name, ..Y })?;
         }
         let head = part_head(rt.alloc(), &parts)?;
-        assert_eq!(rt;
-            fault_of(rt.alloc(), &head)?,
-            of_parts.map(HeaderFault::Limit)
-        );
+        assert!(rt; fault_of(rt.alloc(), &head)? == of_parts.map(HeaderFault::Limit));
         let picture = Picture {
             channels: &channels,
             ..ONE_PIXEL
         };
         let head = single_head(rt.alloc(), &picture, &[])?;
-        assert_eq!(rt;
-            fault_of(rt.alloc(), &head)?,
-            of_channels.map(HeaderFault::Limit)
-        );
+        assert!(rt; fault_of(rt.alloc(), &head)? == of_channels.map(HeaderFault::Limit));
     }
     Ok(())
 }
@@ -176,7 +170,7 @@ fn the_most_given_parts(rt: HostRuntime) -> Result<(), Fail> {
     let (head, _) = read_head(rt.alloc(), &spell(rt.alloc(), ONE)?)?;
     let parts = given(rt.alloc(), &head, &[(0, Scan); 1025])?;
     let fault = HeaderFault::Limit(Bound::Parts);
-    assert_eq!(rt; made(rt.alloc(), true, parts)?, Err(fault));
+    assert!(rt; made(rt.alloc(), true, parts)? == Err(fault));
     Ok(())
 }
 
@@ -202,16 +196,16 @@ fn small(alloc: Global) -> Result<(PackedName, Attribute), Fail> {
 fn heads_of_16_mib(rt: HostRuntime) -> Result<(), Fail> {
     let limit = HeaderFault::Limit(Bound::HeadBytes);
     let greater = head_of(rt.alloc(), MOST_BYTES + 1)?;
-    assert_eq!(rt; fault_of(rt.alloc(), &greater)?, Some(limit));
+    assert!(rt; fault_of(rt.alloc(), &greater)? == Some(limit));
     let bytes = head_of(rt.alloc(), MOST_BYTES)?;
     let (head, len) = read_head(rt.alloc(), &bytes)?;
-    assert_eq!(rt; len, 1 << 24);
+    assert!(rt; len == 1 << 24);
     let mut parts = given(rt.alloc(), &head, &[(0, Scan)])?;
     for (_, map) in parts.iter_mut() {
         let (name, attribute) = small(rt.alloc())?;
         map.set(name, attribute)?;
     }
-    assert_eq!(rt; made(rt.alloc(), false, parts)?, Err(limit));
+    assert!(rt; made(rt.alloc(), false, parts)? == Err(limit));
     let parts = given(rt.alloc(), &head, &[(0, Scan)])?;
     assert!(rt; made(rt.alloc(), false, parts)? == Ok(bytes));
     Ok(())

@@ -23,12 +23,12 @@ const HEADS: &[(Spelled, usize)] = &[
 fn every_front_is_truncated(rt: HostRuntime) -> Result<(), Fail> {
     for (head, size) in HEADS {
         let bytes = spell(rt.alloc(), *head)?;
-        assert_eq!(rt; bytes.len(), *size);
-        assert_eq!(rt; fault_of(rt.alloc(), &bytes)?, None);
+        assert!(rt; bytes.len() == *size);
+        assert!(rt; fault_of(rt.alloc(), &bytes)? == None);
         for len in 0..bytes.len() {
             let front = bytes.get(..len).ok_or("a front")?;
             let ends = HeaderFault::Truncated { at: len as u64 };
-            assert_eq!(rt; fault_of(rt.alloc(), front)?, Some(ends));
+            assert!(rt; fault_of(rt.alloc(), front)? == Some(ends));
         }
     }
     Ok(())
@@ -245,12 +245,8 @@ fn texts_of_heads(rt: HostRuntime) -> Result<(), Fail> {
         for piece in *pieces {
             text.push_str(piece)?;
         }
-        assert_eq!(rt;
-            show_head(rt.alloc(), &head)?.as_slice(),
-            text.as_bytes(),
-            "{text}"
-        );
-        assert_eq!(rt; write_head(rt.alloc(), &head)?, bytes);
+        assert!(rt; show_head(rt.alloc(), &head)?.as_slice() == text.as_bytes());
+        assert!(rt; write_head(rt.alloc(), &head)? == bytes);
     }
     Ok(())
 }
@@ -308,7 +304,7 @@ fn flags_of_written_heads(rt: HostRuntime) -> Result<(), Fail> {
     for (read, written, picture, more) in FLAGS {
         let (head, _) = read_head(rt.alloc(), &spell(rt.alloc(), One(*read, *picture, more))?)?;
         let again = spell(rt.alloc(), One(*written, *picture, more))?;
-        assert_eq!(rt; write_head(rt.alloc(), &head)?, again);
+        assert!(rt; write_head(rt.alloc(), &head)? == again);
     }
     Ok(())
 }

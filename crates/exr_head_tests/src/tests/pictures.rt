@@ -17,8 +17,13 @@ type Channel = (&'static [u8], u32, (u32, u32));
 /// A data window: its first column and line, and its last ones.
 type Window = [i32; 4];
 
-/// The fault of the head of one picture with other channels.
-fn listed(alloc: Global, picture: &Picture, channels: &[Channel]) -> Result<Fault, Fail> {
+/// The fault of the head of one picture of these channels, in lines or in tiles.
+fn listed(
+    alloc: Global,
+    window: Window,
+    tiles: Option<(u32, u32)>,
+    channels: &[Channel],
+) -> Result<Fault, Fail> {
     let mut specs = Vec::new(alloc);
     for (name, kind, sampling) in channels {
         specs.push(ChannelSpec {
@@ -28,10 +33,12 @@ fn listed(alloc: Global, picture: &Picture, channels: &[Channel]) -> Result<Faul
             sampling: *sampling,
         })?;
     }
-    let flags = if picture.tiles.is_some() { TILED } else { 0 };
+    let flags = if tiles.is_some() { TILED } else { 0 };
     let picture = Picture {
         channels: &specs,
-        ..*picture
+        window,
+        tiles,
+        ..ONE_PIXEL
     };
     fault_of(alloc, &flagged_head(alloc, flags, &picture, &[])?)
 }
@@ -125,42 +132,23 @@ const SAMPLINGS: &[(Window, (u32, u32), (u32, u32), Fault)] = &[
     ([0, 0, 4, 0], (2, 1), (2, 1), FIRST),
 ];
 
+/// One HALF channel.
+const HALF: &[Channel] = &[(b"Y", 1, (1, 1))];
+
 #[test]
 fn channels_windows_and_tiles(rt: HostRuntime) -> Result<(), Fail> {
-    let one: &[Channel] = &[(b"Y", 1, (1, 1))];
     for (channels, fault) in CHANNELS {
-        assert_eq!(rt; listed(rt.alloc(), &ONE_PIXEL, channels)?, *fault);
+        assert!(rt; listed(rt.alloc(), [0; 4], None, channels)? == *fault);
     }
     for (window, fault) in WINDOWS {
-        let window = *window;
-        let picture = Picture {
-            window,
-            ..ONE_PIXEL
-        };
-        assert_eq!(rt; listed(rt.alloc(), &picture, one)?, *fault, "{window:?}");
+        assert!(rt; listed(rt.alloc(), *window, None, HALF)? == *fault);
     }
     for (window, tiles, fault) in IN_TILES {
-        let window = *window;
-        let tiles = Some(*tiles);
-        let picture = Picture {
-            window,
-            tiles,
-            ..TILES
-        };
-        assert_eq!(rt; listed(rt.alloc(), &picture, one)?, *fault, "{window:?}");
+        assert!(rt; listed(rt.alloc(), *window, Some(*tiles), HALF)? == *fault);
     }
     for (window, first, second, fault) in SAMPLINGS {
-        let window = *window;
         let channels = [(b"A".as_slice(), 1, *first), (b"B", 1, *second)];
-        let picture = Picture {
-            window,
-            ..ONE_PIXEL
-        };
-        assert_eq!(rt;
-            listed(rt.alloc(), &picture, &channels)?,
-            *fault,
-            "{window:?}"
-        );
+        assert!(rt; listed(rt.alloc(), *window, None, &channels)? == *fault);
     }
     Ok(())
 }
@@ -168,7 +156,18 @@ fn channels_windows_and_tiles(rt: HostRuntime) -> Result<(), Fail> {
 /// A method and a line order, and the faults of a part in lines, of one in tiles, and of a deep one in lines.
 type Chosen = (u8, u8, Fault, Fault, Fault);
 
+/// The flags of a file, and the picture and the other attributes of its part.
+type Form = (u32, Picture<'static>, &'static [Extra]);
+
+const LINES_FORM: Form = (0, ONE_PIXEL, &[]);
+
+const TILED_FORM: Form = (TILED, TILES, &[]);
+
+const DEEP_FORM: Form = (DEEP, TWO_PIXELS, DEEP_LINES);
+
 const NO_PIZ: Fault = Some(UnknownCompression { part: 0, number: 4 });
+
+const NO_NINE: Fault = Some(UnknownCompression { part: 0, number: 9 });
 
 const NO_TWELVE: Fault = Some(UnknownCompression {
     part: 0,
@@ -183,13 +182,7 @@ const CHOSEN: &[Chosen] = &[
     (0, 0, None, None, None),
     (3, 1, None, None, None),
     (4, 0, None, None, NO_PIZ),
-    (
-        9,
-        0,
-        None,
-        None,
-        Some(UnknownCompression { part: 0, number: 9 }),
-    ),
+    (9, 0, None, None, NO_NINE),
     (12, 0, NO_TWELVE, NO_TWELVE, NO_TWELVE),
     (0, 2, NO_RANDOM, None, NO_RANDOM),
     (0, 3, NO_ORDER, NO_ORDER, NO_ORDER),
@@ -197,8 +190,18 @@ const CHOSEN: &[Chosen] = &[
     (12, 3, NO_TWELVE, NO_TWELVE, NO_TWELVE),
 ];
 
-/// The fault of a picture under another method and order.
-fn chosen(alloc: Global, flags: u32, picture: Picture, more: &[Extra]) -> Result<Fault, Fail> {
+/// The fault of a part under another method and order.
+fn chosen(
+    alloc: Global,
+    (flags, picture, more): Form,
+    method: u8,
+    order: u8,
+) -> Result<Fault, Fail> {
+    let picture = Picture {
+        method,
+        order,
+        ..picture
+    };
     fault_of(
         alloc,
         &flagged_head(alloc, flags, &picture, &extras(alloc, more)?)?,
@@ -208,19 +211,9 @@ fn chosen(alloc: Global, flags: u32, picture: Picture, more: &[Extra]) -> Result
 #[test]
 fn methods_and_orders(rt: HostRuntime) -> Result<(), Fail> {
     for (method, order, lines, tiles, deep) in CHOSEN {
-        let (method, order) = (*method, *order);
-        for (flags, picture, more, fault) in [
-            (0, ONE_PIXEL, &DEEP_LINES[..0], lines),
-            (TILED, TILES, &DEEP_LINES[..0], tiles),
-            (DEEP, TWO_PIXELS, DEEP_LINES, deep),
-        ] {
-            let picture = Picture {
-                method,
-                order,
-                ..picture
-            };
-            assert_eq!(rt; chosen(rt.alloc(), flags, picture, more)?, *fault);
-        }
+        assert!(rt; chosen(rt.alloc(), LINES_FORM, *method, *order)? == *lines);
+        assert!(rt; chosen(rt.alloc(), TILED_FORM, *method, *order)? == *tiles);
+        assert!(rt; chosen(rt.alloc(), DEEP_FORM, *method, *order)? == *deep);
     }
     Ok(())
 }
