@@ -2,6 +2,7 @@
 
 ghost use Rattle.exr_outside.specs.Fakes.{named_files, AreOf};
 
+use super::expect;
 use exr_base::{Failed, Refusal};
 use exr_outside::{
     CutShort, Fails, Files, MemFiles, World, append_all, are_of_one_world, read_all,
@@ -158,27 +159,45 @@ fn outcome_of(
     copied::<Brand>(alloc, files, String::from_str(alloc, from)?, room, fails)
 }
 
+/// Whether a copy failed so often in reading and in writing, and kept this.
+fn is_outcome(outcome: &Outcome, read_faults: u64, write_faults: u64, kept: Option<&str>) -> bool {
+    let is_kept = match (&outcome.kept, kept) {
+        (Some(bytes), Some(text)) => bytes.as_slice() == text.as_bytes(),
+        (None, None) => true,
+        _ => false,
+    };
+    is_kept
+        && outcome.read_faults == read_faults
+        && outcome.write_faults == write_faults
+        && outcome.done == (read_faults == 0 && write_faults == 0)
+}
+
 #[test]
 fn copies_in_memory(rt: HostRuntime) -> Result<(), Fail> {
-    for (from, room, named, read_faults, write_faults, kept) in CASES {
+    for (case, (from, room, named, read_faults, write_faults, kept)) in CASES.iter().enumerate() {
         let outcome = outcome_of(&rt, rt.alloc(), from, *room, *named)?;
-        let faults = (outcome.read_faults, outcome.write_faults);
-        assert_eq!(rt; faults, (*read_faults, *write_faults));
-        assert_eq!(rt; outcome.done, faults == (0, 0));
-        assert_eq!(rt; outcome.kept.as_deref(), kept.map(|text| text.as_bytes()));
+        expect(
+            &rt,
+            case,
+            is_outcome(&outcome, *read_faults, *write_faults, *kept),
+        );
     }
     Ok(())
 }
 
+/// Two files by their names and bytes, and whether they are of one world.
+const WORLDS: &[(&[(&str, &str)], bool)] = &[
+    (&[("a", "x"), ("b", "x")], true),
+    (&[("a", "x"), ("a", "x")], true),
+    (&[("a", "x"), ("a", "y")], false),
+    (&[("a", ""), ("a", "y")], false),
+];
+
 #[test]
 fn files_of_one_world(rt: HostRuntime) -> Result<(), Fail> {
-    for (files, are) in [
-        ([("a", "x"), ("b", "x")], true),
-        ([("a", "x"), ("a", "x")], true),
-        ([("a", "x"), ("a", "y")], false),
-        ([("a", ""), ("a", "y")], false),
-    ] {
-        assert_eq!(rt; are_of_one_world(&files_of(rt.alloc(), &files)?), are);
+    for (case, (files, are)) in WORLDS.iter().enumerate() {
+        let files = files_of(rt.alloc(), files)?;
+        expect(&rt, case, are_of_one_world(&files) == *are);
     }
     Ok(())
 }

@@ -2,11 +2,12 @@
 
 ghost use Rattle.std.specs.Prelude.{[], false};
 
+use super::{expect, source_of};
 use exr_attributes::{Bound, HeaderFault};
 use exr_base::{Failed, Refusal};
 use exr_fixtures::{ONE_PIXEL, put_attribute, single_head};
 use exr_opening::{OpenFault, Opened, open_head, read_piece};
-use exr_outside::{MemSource, Source};
+use exr_outside::Source;
 use std::alloc::Global;
 use std::test::Fail;
 
@@ -108,22 +109,31 @@ const SIZES: &[usize] = &[
     5_000_000,
 ];
 
+/// Whether opening a file of this head and of so many bytes more answers its length, and reads at most twice the head and
+/// 64 KiB.
+fn is_opened(alloc: Global, head: &[u8], more: u64) -> Result<bool, Fail> {
+    let bytes = head.len() as u64;
+    let (answer, read) = opened(alloc, head, bytes.saturating_add(more))?;
+    let most = bytes.saturating_mul(2).saturating_add(1 << 16);
+    Ok(answer == Ok(head.len()) && read <= most)
+}
+
+/// How many bytes follow the heads.
+const MORE: [u64; 4] = [0, 1, 1 << 20, 1 << 40];
+
 // At most twice the head and 64 KiB are read, and never past 2^24 + 1 bytes.
 #[test]
 fn heads_of_many_sizes(rt: HostRuntime) -> Result<(), Fail> {
     for size in SIZES {
         let head = head_with(rt.alloc(), *size)?;
-        let bytes = head.len() as u64;
-        for behind in [0, 1, 1 << 20, 1 << 40] {
-            let (answer, read) = opened(rt.alloc(), &head, bytes.saturating_add(behind))?;
-            assert_eq!(rt; answer, Ok(size.saturating_add(292)));
-            let most = bytes.saturating_mul(2).saturating_add(1 << 16);
-            assert!(rt; read <= most, "{size} {read}");
+        expect(&rt, *size, head.len() == size.saturating_add(292));
+        for more in MORE {
+            expect(&rt, *size, is_opened(rt.alloc(), &head, more)?);
         }
-        let cut = bytes.saturating_sub(1);
-        let (answer, _) = opened(rt.alloc(), &head, cut)?;
-        let ends = OpenFault::Head(HeaderFault::Truncated { at: cut });
-        assert_eq!(rt; answer, Err(ends));
+        let at = (head.len() as u64).saturating_sub(1);
+        let (answer, _) = opened(rt.alloc(), &head, at)?;
+        let fault = HeaderFault::Truncated { at };
+        expect(&rt, *size, answer == Err(OpenFault::Head(fault)));
     }
     Ok(())
 }
@@ -164,9 +174,10 @@ const FAULTY: &[Faulty] = &[
 
 #[test]
 fn faults_of_long_files(rt: HostRuntime) -> Result<(), Fail> {
-    for (front, length, fault, read) in FAULTY {
-        let found = opened(rt.alloc(), front, *length)?;
-        assert_eq!(rt; found, (Err(OpenFault::Head(*fault)), *read));
+    for (case, (front, length, fault, read)) in FAULTY.iter().enumerate() {
+        let (answer, found) = opened(rt.alloc(), front, *length)?;
+        let is_right = answer == Err(OpenFault::Head(*fault)) && found == *read;
+        expect(&rt, case, is_right);
     }
     Ok(())
 }
@@ -181,20 +192,17 @@ const FAILING: &[Failing] = &[
     (&[], &[0], Err(OpenFault::Read)),
 ];
 
-/// One pixel's head as a source with calls that fail.
-fn source_of(alloc: Global, lens: &[u64], reads: &[u64]) -> Result<MemSource, Fail> {
-    let head = single_head(alloc, &ONE_PIXEL, &[])?;
-    let lens = lens.to_vec(alloc)?;
-    let reads = reads.to_vec(alloc)?;
-    Ok(MemSource::new(alloc, "in", head, lens, reads)?)
-}
-
 #[test]
 fn calls_that_fail(rt: HostRuntime) -> Result<(), Fail> {
-    for (lens, reads, answer) in FAILING {
-        let mut source = source_of(rt.alloc(), lens, reads)?;
-        assert_eq!(rt; answer_of(rt.alloc(), &mut source)?, *answer);
-        assert_eq!(rt; source.faults() > 0, answer.is_err());
+    let head = single_head(rt.alloc(), &ONE_PIXEL, &[])?;
+    for (case, (lens, reads, answer)) in FAILING.iter().enumerate() {
+        let mut source = source_of(rt.alloc(), &head, lens, reads)?;
+        let is_right = answer_of(rt.alloc(), &mut source)? == *answer;
+        expect(
+            &rt,
+            case,
+            is_right && (source.faults() > 0) == answer.is_err(),
+        );
     }
     Ok(())
 }
@@ -211,12 +219,17 @@ const PIECES: &[(u32, u16, &[u8])] = &[
 
 #[test]
 fn pieces_of_a_source(rt: HostRuntime) -> Result<(), Fail> {
-    let mut source = source_of(rt.alloc(), &[], &[6])?;
-    for (at, size, bytes) in PIECES {
+    let head = single_head(rt.alloc(), &ONE_PIXEL, &[])?;
+    let mut source = source_of(rt.alloc(), &head, &[], &[6])?;
+    for (case, (at, size, bytes)) in PIECES.iter().enumerate() {
         let piece = read_piece(rt.alloc(), &mut source, u64::from(*at), usize::from(*size))?;
-        assert_eq!(rt; piece.as_slice(), *bytes);
+        expect(&rt, case, piece.as_slice() == *bytes);
     }
     let failed = read_piece(rt.alloc(), &mut source, 0, 1);
-    assert_eq!(rt; failed.err(), Some(Refusal::Fault(OpenFault::Read)));
+    expect(
+        &rt,
+        6,
+        failed.err() == Some(Refusal::Fault(OpenFault::Read)),
+    );
     Ok(())
 }

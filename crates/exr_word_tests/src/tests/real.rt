@@ -1,6 +1,7 @@
 //! The adapters over files of the system, in a folder of their own, failures included.
 
 use super::copies::copy;
+use super::expect;
 use exr_base::{Failed, Refusal};
 use exr_outside::{
     CutShort, Files, OutSink, Printer, RealFiles, RealWorld, Sink, Source, append_all, read_full,
@@ -45,27 +46,26 @@ fn copies_and_refuses<R: Abort + Print + AllocGlobal + std::rt::Files<File = Fil
 ) -> Result<(), Fail> {
     let alloc = rt.alloc();
     let mut files = RealFiles::new(rt, alloc);
-    assert_eq!(rt; copy::<RealWorld, _>(alloc, &mut files, from, to), Ok(()));
-    assert_eq!(rt; fs::read(rt, to)?.as_slice(), b"some bytes".as_slice());
-    assert_eq!(rt; (files.read_faults(), files.write_faults()), (0, 0));
+    let answer = copy::<RealWorld, _>(alloc, &mut files, from, to);
+    expect(rt, 0, answer == Ok(()));
+    expect(
+        rt,
+        1,
+        fs::read(rt, to)?.as_slice() == b"some bytes".as_slice(),
+    );
+    expect(rt, 2, files.read_faults() == 0 && files.write_faults() == 0);
 
     let missing = format!(in alloc; "{folder}/missing")?;
     let failed = Err(Refusal::Fault(Failed));
-    assert_eq!(rt;
-        copy::<RealWorld, _>(alloc, &mut files, missing.as_str(), to),
-        failed
-    );
-    assert_eq!(rt; (files.read_faults(), files.write_faults()), (1, 0));
-    assert_eq!(rt;
-        copy::<RealWorld, _>(alloc, &mut files, from, folder),
-        failed
-    );
-    assert_eq!(rt; (files.read_faults(), files.write_faults()), (1, 1));
-    assert_eq!(rt;
-        copy::<RealWorld, _>(alloc, &mut files, from, "/dev/full"),
-        failed
-    );
-    assert_eq!(rt; (files.read_faults(), files.write_faults()), (1, 2));
+    let answer = copy::<RealWorld, _>(alloc, &mut files, missing.as_str(), to);
+    expect(rt, 3, answer == failed);
+    expect(rt, 4, files.read_faults() == 1 && files.write_faults() == 0);
+    let answer = copy::<RealWorld, _>(alloc, &mut files, from, folder);
+    expect(rt, 5, answer == failed);
+    expect(rt, 6, files.read_faults() == 1 && files.write_faults() == 1);
+    let answer = copy::<RealWorld, _>(alloc, &mut files, from, "/dev/full");
+    expect(rt, 7, answer == failed);
+    expect(rt, 8, files.read_faults() == 1 && files.write_faults() == 2);
     Ok(())
 }
 
@@ -76,22 +76,22 @@ fn reads<R: Abort + Print + AllocGlobal + std::rt::Files<File = File>>(
 ) -> Result<(), Fail> {
     let mut files = RealFiles::new(rt, rt.alloc());
     let mut source = files.open(from)?;
-    assert_eq!(rt; source.name(), from);
-    assert_eq!(rt; source.len(), Ok(10));
+    expect(rt, 0, source.name() == from);
+    expect(rt, 1, source.len() == Ok(10));
     let mut into = [b'.'; 8];
-    assert_eq!(rt; read_full(&mut source, 5, &mut into), Ok(5));
-    assert_eq!(rt; &into, b"bytes...");
-    assert_eq!(rt; source.read_at(1 << 63, &mut into), Ok(0));
-    assert_eq!(rt; source.faults(), 0);
+    expect(rt, 2, read_full(&mut source, 5, &mut into) == Ok(5));
+    expect(rt, 3, into == *b"bytes...");
+    expect(rt, 4, source.read_at(1 << 63, &mut into) == Ok(0));
+    expect(rt, 5, source.faults() == 0);
     files.back_in(source);
-    assert_eq!(rt; files.read_faults(), 0);
+    expect(rt, 6, files.read_faults() == 0);
 
     let mut source = files.open(folder)?;
-    assert_eq!(rt; source.read_at(0, &mut into[..0]), Ok(0));
-    assert_eq!(rt; source.read_at(0, &mut into), Err(Failed));
-    assert_eq!(rt; source.faults(), 1);
+    expect(rt, 7, source.read_at(0, &mut into[..0]) == Ok(0));
+    expect(rt, 8, source.read_at(0, &mut into) == Err(Failed));
+    expect(rt, 9, source.faults() == 1);
     files.back_in(source);
-    assert_eq!(rt; files.read_faults(), 1);
+    expect(rt, 10, files.read_faults() == 1);
     Ok(())
 }
 
@@ -101,30 +101,32 @@ fn writes<R: Abort + Print + AllocGlobal + std::rt::Files<File = File>>(
 ) -> Result<(), Fail> {
     let mut files = RealFiles::new(rt, rt.alloc());
     let mut sink = files.create(to)?;
-    assert_eq!(rt; sink.name(), to);
-    assert_eq!(rt; append_all(&mut sink, b"abcd"), Ok(()));
-    assert_eq!(rt; write_all_at(&mut sink, 1, b"BC"), Ok(()));
-    assert_eq!(rt; append_all(&mut sink, b"e"), Ok(()));
-    assert_eq!(rt;
-        (sink.append(b""), sink.write_at(u64::MAX, b"")),
-        (Ok(0), Ok(0))
-    );
-    assert_eq!(rt; sink.write_at(1 << 63, b"x"), Err(Failed));
-    assert_eq!(rt; sink.faults(), 1);
+    expect(rt, 0, sink.name() == to);
+    expect(rt, 1, append_all(&mut sink, b"abcd") == Ok(()));
+    expect(rt, 2, write_all_at(&mut sink, 1, b"BC") == Ok(()));
+    expect(rt, 3, append_all(&mut sink, b"e") == Ok(()));
+    expect(rt, 4, sink.append(b"") == Ok(0));
+    expect(rt, 5, sink.write_at(u64::MAX, b"") == Ok(0));
+    expect(rt, 6, sink.write_at(1 << 63, b"x") == Err(Failed));
+    expect(rt, 7, sink.faults() == 1);
     files.back_out(sink);
-    assert_eq!(rt; files.write_faults(), 1);
-    assert_eq!(rt; fs::read(rt, to)?.as_slice(), b"aBCde".as_slice());
+    expect(rt, 8, files.write_faults() == 1);
+    expect(rt, 9, fs::read(rt, to)?.as_slice() == b"aBCde".as_slice());
 
     let mut full = files.create("/dev/full")?;
-    assert_eq!(rt; full.append(b""), Ok(0));
-    assert_eq!(rt; append_all(&mut full, b"x"), Err(CutShort { taken: 0 }));
+    expect(rt, 10, full.append(b"") == Ok(0));
+    expect(
+        rt,
+        11,
+        append_all(&mut full, b"x") == Err(CutShort { taken: 0 }),
+    );
     files.back_out(full);
-    assert_eq!(rt; files.write_faults(), 2);
+    expect(rt, 12, files.write_faults() == 2);
     Ok(())
 }
 
 fn prints<R: Abort + Print + AllocGlobal + std::rt::Files<File = File>>(rt: &R) {
     let mut out = OutSink::new(rt);
-    assert_eq!(rt; append_all(&mut out, b"a line\n"), Ok(()));
-    assert_eq!(rt; (out.append(b""), out.faults()), (Ok(0), 0));
+    expect(rt, 0, append_all(&mut out, b"a line\n") == Ok(()));
+    expect(rt, 1, out.append(b"") == Ok(0) && out.faults() == 0);
 }

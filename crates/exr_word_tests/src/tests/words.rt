@@ -1,5 +1,6 @@
 //! Command lines, with what they ask for or the word at which they are refused.
 
+use super::expect;
 use exr_base::Refusal;
 use exr_words::{Choices, Order, Wanted, WordFault, read_words};
 use std::alloc::{AllocError, Global};
@@ -142,9 +143,9 @@ const COMMANDS: &[(&[&str], &str)] = &[
 
 #[test]
 fn each_word_at_its_place(rt: HostRuntime) -> Result<(), Fail> {
-    for (words, answer) in COMMANDS {
+    for (case, (words, answer)) in COMMANDS.iter().enumerate() {
         let found = answer_to(rt.alloc(), words)?;
-        assert_eq!(rt; found.as_str(), *answer, "{words:?}");
+        expect(&rt, case, found.as_str() == *answer);
     }
     Ok(())
 }
@@ -258,15 +259,20 @@ const LENGTHS: &[(u32, u32, bool)] = &[
 #[test]
 fn choices(rt: HostRuntime) -> Result<(), Fail> {
     for table in [NUMBERS, WINDOWS_AND_LAYOUTS, CHANNELS] {
-        for (word, answer) in table {
+        for (case, (word, answer)) in table.iter().enumerate() {
             let found = answer_to(rt.alloc(), &["extract", "in=a", "out=b", word])?;
-            assert_eq!(rt; found.as_str(), *answer, "{word:?}");
+            expect(&rt, case, found.as_str() == *answer);
         }
     }
-    for (channels, letters, is_list) in LENGTHS {
+    Ok(())
+}
+
+#[test]
+fn lengths_of_channels(rt: HostRuntime) -> Result<(), Fail> {
+    for (case, (channels, letters, is_list)) in LENGTHS.iter().enumerate() {
         let word = channels_word(rt.alloc(), *channels, *letters)?;
         let found = answer_to(rt.alloc(), &["extract", "in=a", "out=b", word.as_str()])?;
-        assert_eq!(rt; found.as_str() != "3", *is_list, "{channels} of {letters}");
+        expect(&rt, case, (found.as_str() != "3") == *is_list);
     }
     Ok(())
 }
