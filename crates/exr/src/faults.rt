@@ -14,7 +14,6 @@ Statuses
   4  Read                a file could not be opened or read
   5  Write               a file or standard output could not be written
   6  Request             what is asked of the file cannot be had
-  7  Form                the part is of a kind that is not supported so far
 ";
 
 pub const HEAD_FAULTS: &str = "
@@ -57,12 +56,14 @@ Faults of a chunk (status 3, part P chunk C fault N): of the first faulty one
 
 pub const REQUEST_FAULTS: &str = "
 Faults of a request (status 6, request fault N): the first one in this order
-  1  NoPart              the file has no part of that number
-  3  Window              the window is empty or not within the data window
-  4  Mixed               channels that share lines or pixels differ in sampling
-  5  Layout              the buffer has no valid layout, as when a name repeats
-  6  TooLarge            the buffer would have more than 2^30 bytes
-  7  Match               a channel has another kind than the one asked for
+   1  NoPart             the file has no part of that number
+   2  DeepWords          a deep part takes no layout, channels, pad, fill, byte
+   3  Window             the window is empty or not within the data window
+   4  Mixed              channels that share lines or pixels differ in sampling
+   5  Layout             the buffer has no valid layout, as when a name repeats
+   6  TooLarge           the buffer would have more than 2^30 bytes
+   7  Match              a channel has another kind than the one asked for
+  11  DeepTooLarge       a deep part's pixels would have more than 2^30 bytes
 ";
 
 pub const LAYOUT_FAULTS: &str = "

@@ -90,7 +90,7 @@ fn lines_of<R: Abort>(rt: &R, section: &str) -> usize {
     count
 }
 
-const STOPS: [Stop; 7] = [
+const STOPS: [Stop; 6] = [
     Stop::NoMemory,
     Stop::Words { position: 0 },
     Stop::File {
@@ -100,7 +100,6 @@ const STOPS: [Stop; 7] = [
     Stop::Read,
     Stop::Write,
     Stop::Request(RequestFault::NoPart),
-    Stop::Form,
 ];
 
 #[test]
@@ -188,13 +187,15 @@ fn faults_of_chunks(rt: HostRuntime) -> Result<(), Fail> {
     Ok(())
 }
 
-const OF_REQUESTS: [RequestFault; 6] = [
+const OF_REQUESTS: [RequestFault; 8] = [
     RequestFault::NoPart,
+    RequestFault::DeepWords,
     RequestFault::Window,
     RequestFault::Mixed { slice: 0 },
     RequestFault::Layout(LayoutFault::Empty { plane: 0 }),
     RequestFault::TooLarge,
     RequestFault::Match(MatchFault::WindowOutside),
+    RequestFault::DeepTooLarge { index: 0 },
 ];
 
 const OF_LAYOUTS: [LayoutFault; 7] = [

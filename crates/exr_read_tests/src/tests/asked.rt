@@ -20,6 +20,8 @@ pub struct Request {
     pub layout: Arrangement,
     pub channels: Option<&'static [Named]>,
     pub pad: u16,
+    /// Whether a choice was given that a deep part does not take.
+    pub arranged: bool,
     pub fill: u32,
 }
 
@@ -30,6 +32,7 @@ pub const ALL: Request = Request {
     layout: Arrangement::Planar,
     channels: None,
     pad: 0,
+    arranged: false,
     fill: 0,
 };
 
@@ -77,5 +80,6 @@ pub fn asked_of(alloc: Global, request: &Request) -> Result<Asked, Fail>
         channels,
         pad: u32::from(request.pad),
         fill: request.fill,
+        arranged: request.arranged,
     })
 }

@@ -8,7 +8,7 @@ use exr_fixtures::{ChannelSpec, ONE_PIXEL, Picture, Y, flagged_head};
 use exr_header::{FileHead, read_head};
 use exr_layout::{LayoutFault, MatchFault};
 use exr_request::{
-    Arrangement, Asked, Choices, Granted, RequestFault, RequestStop, Wanted, request,
+    Arrangement, Asked, Choices, Fitted, Granted, RequestFault, Wanted, request,
 };
 use std::alloc::Global;
 use std::test::Fail;
@@ -21,7 +21,7 @@ type Placed = (u64, u64, u64, u64, Option<u32>);
 type Case = (
     Picture<'static>,
     Request,
-    Result<(u64, &'static [Placed]), RequestStop>,
+    Result<(u64, &'static [Placed]), RequestFault>,
 );
 
 const B: ChannelSpec<'static> = ChannelSpec { name: b"B", ..Y };
@@ -101,7 +101,7 @@ const LINES: Request = Request {
     ..ALL
 };
 
-const WINDOW: Result<(u64, &[Placed]), RequestStop> = Err(RequestStop::Fault(RequestFault::Window));
+const WINDOW: Result<(u64, &[Placed]), RequestFault> = Err(RequestFault::Window);
 
 const CASES: &[Case] = &[
     // pixel by pixel, line by line and plane by plane, also with padding
@@ -160,10 +160,10 @@ const CASES: &[Case] = &[
             channels: Some(&[(b"Y", None), (b"Y", None)]),
             ..ALL
         },
-        Err(RequestStop::Fault(RequestFault::Layout(LayoutFault::TwiceChannel {
+        Err(RequestFault::Layout(LayoutFault::TwiceChannel {
             first: 0,
             second: 1,
-        }))),
+        })),
     ),
     (
         ONE_PIXEL,
@@ -171,7 +171,7 @@ const CASES: &[Case] = &[
             channels: Some(&[(b"A", None), (b"Y", Some(Kind::Float))]),
             ..ALL
         },
-        Err(RequestStop::Fault(RequestFault::Match(MatchFault::KindDiffers { slice: 1 }))),
+        Err(RequestFault::Match(MatchFault::KindDiffers { slice: 1 })),
     ),
     // windows, also of pixels without samples
     (SPARSE, ALL, Ok((8, &[(0, 4, 0, 2, Some(0))]))),
@@ -234,7 +234,7 @@ const CASES: &[Case] = &[
         },
         Ok((1073741824, &[(0, 65536, 0, 2, Some(0))])),
     ),
-    (LARGE, ALL, Err(RequestStop::Fault(RequestFault::TooLarge))),
+    (LARGE, ALL, Err(RequestFault::TooLarge)),
     // a part that is not there, and a method that is no matter of a request
     (
         Picture {
@@ -247,7 +247,7 @@ const CASES: &[Case] = &[
     (
         ONE_PIXEL,
         Request { part: 1, ..ALL },
-        Err(RequestStop::Fault(RequestFault::NoPart)),
+        Err(RequestFault::NoPart),
     ),
     // channels of unlike samplings
     (
@@ -258,12 +258,12 @@ const CASES: &[Case] = &[
     (
         MIXED,
         PIXELS,
-        Err(RequestStop::Fault(RequestFault::Mixed { slice: 1 })),
+        Err(RequestFault::Mixed { slice: 1 }),
     ),
 ];
 
 /// The slices of what is granted.
-fn placed_in(alloc: Global, granted: &Granted) -> Result<Vec<Placed>, Fail> {
+fn placed_in(alloc: Global, granted: &Fitted) -> Result<Vec<Placed>, Fail> {
     let mut placed = Vec::new(alloc);
     for plane in granted.layout.planes() {
         for run in &plane.runs {
@@ -287,7 +287,7 @@ fn answer(
     alloc: Global,
     head: &FileHead,
     asked: &Asked,
-) -> Result<Result<Granted, RequestStop>, Fail>
+) -> Result<Result<Granted, RequestFault>, Fail>
     requires { IsModest (demand_of asked.now) }
 {
     match request(alloc, head, asked) {
@@ -304,7 +304,7 @@ fn answered(
     picture: &Picture,
     more: &[u8],
     request: &Request,
-) -> Result<Result<Granted, RequestStop>, Fail> {
+) -> Result<Result<Granted, RequestFault>, Fail> {
     let (head, _) = read_head(alloc, &flagged_head(alloc, flags, picture, more)?)?;
     let asked = asked_of(alloc, request)?;
     answer(alloc, &head, &asked)
@@ -315,7 +315,7 @@ fn answers(rt: HostRuntime) -> Result<(), Fail> {
     let alloc = rt.alloc();
     for (picture, request, wanted) in CASES {
         match (answered(alloc, 0, picture, b"", request)?, wanted) {
-            (Ok(granted), Ok((bytes, slices))) => {
+            (Ok(Granted::Flat(granted)), Ok((bytes, slices))) => {
                 assert_eq!(rt; granted.layout.buffer(), *bytes);
                 assert_eq!(rt; placed_in(alloc, &granted)?.as_slice(), *slices);
             }
@@ -332,22 +332,56 @@ const DEEP: (u32, &[u8]) = (
     b"type\0string\0\x0c\0\0\0deepscanlineversion\0int\0\x04\0\0\0\x01\0\0\0",
 );
 
-// A deep part is refused before its window, and after a part that is not there.
+/// What is asked of a deep part, and its window or why it is refused.
+const OF_DEEP: &[(Request, Result<[i32; 4], RequestFault>)] = &[
+    (ALL, Ok([0, 0, 0, 0])),
+    (Request { window: Some([0, 0, 0, 0]), ..ALL }, Ok([0, 0, 0, 0])),
+    (Request { arranged: true, ..ALL }, Err(RequestFault::DeepWords)),
+    // the words before the window
+    (
+        Request {
+            arranged: true,
+            window: Some([7, 7, 7, 7]),
+            ..ALL
+        },
+        Err(RequestFault::DeepWords),
+    ),
+    (
+        Request {
+            window: Some([7, 7, 7, 7]),
+            ..ALL
+        },
+        Err(RequestFault::Window),
+    ),
+    (
+        Request {
+            window: Some([0, 0, -1, 0]),
+            ..ALL
+        },
+        Err(RequestFault::Window),
+    ),
+    // a part that is not there before the words
+    (
+        Request {
+            part: 1,
+            arranged: true,
+            ..ALL
+        },
+        Err(RequestFault::NoPart),
+    ),
+];
+
 #[test]
 fn deep_parts(rt: HostRuntime) -> Result<(), Fail> {
     let (flags, more) = DEEP;
-    let far = Request {
-        window: Some([7, 7, 7, 7]),
-        ..ALL
-    };
-    let absent = Request { part: 1, ..ALL };
-    for (request, wanted) in [
-        (ALL, RequestStop::Form),
-        (far, RequestStop::Form),
-        (absent, RequestStop::Fault(RequestFault::NoPart)),
-    ] {
-        let stop = answered(rt.alloc(), flags, &ONE_PIXEL, more, &request)?.err();
-        assert_eq!(rt; stop, Some(wanted));
+    for (request, wanted) in OF_DEEP {
+        match (answered(rt.alloc(), flags, &ONE_PIXEL, more, request)?, wanted) {
+            (Ok(Granted::Deep(window)), Ok([x0, y0, x1, y1])) => {
+                assert!(rt; (window.x0, window.y0, window.x1, window.y1) == (*x0, *y0, *x1, *y1));
+            }
+            (Err(fault), Err(wanted)) => assert_eq!(rt; fault, *wanted),
+            _ => return Err("another answer".into()),
+        }
     }
     Ok(())
 }
@@ -355,6 +389,7 @@ fn deep_parts(rt: HostRuntime) -> Result<(), Fail> {
 #[test]
 fn choices_and_numbers(rt: HostRuntime) -> Result<(), Fail> {
     let asked = Asked::new(Choices::none());
+    assert!(rt; !asked.arranged);
     assert_eq!(rt; asked.layout, Arrangement::Planar);
     assert_eq!(rt; asked.window, None);
     assert!(rt; asked.channels.is_none());
@@ -373,16 +408,19 @@ fn choices_and_numbers(rt: HostRuntime) -> Result<(), Fail> {
         byte: Some(4),
         workers: Some(5),
     });
+    assert!(rt; asked.arranged);
     assert_eq!(rt; asked.layout, Arrangement::Lines);
     assert_eq!(rt; asked.channels.as_ref().map(|wanted| wanted.len()), Some(1));
     assert_eq!(rt; (asked.part, asked.pad, asked.fill), (1, 2, 3));
     for (fault, number) in [
         (RequestFault::NoPart, 1),
+        (RequestFault::DeepWords, 2),
         (RequestFault::Window, 3),
         (RequestFault::Mixed { slice: 1 }, 4),
         (RequestFault::Layout(LayoutFault::Empty { plane: 0 }), 5),
         (RequestFault::TooLarge, 6),
         (RequestFault::Match(MatchFault::WindowOutside), 7),
+        (RequestFault::DeepTooLarge { index: 0 }, 11),
     ] {
         assert_eq!(rt; fault.number(), number);
     }

@@ -54,6 +54,10 @@ fn chosen(alloc: Global, choices: &Choices) -> Result<String, AllocError> {
 fn shown(alloc: Global, order: &Order) -> Result<String, AllocError> {
     match order {
         Order::Header { inputs } => format!(in alloc; "header {}", inputs.first()),
+        Order::Check { inputs, workers } => {
+            let told = told(alloc, "workers", workers)?;
+            format!(in alloc; "check {}{told}", inputs.first())
+        }
         Order::Extract {
             inputs,
             output,
@@ -105,6 +109,16 @@ const COMMANDS: &[(&[&str], &str)] = &[
     (&["header", "in=a", "in=a"], "2"),
     (&["header", "in=a", "out=b"], "2"),
     (&["header", "in=a", "part=0"], "2"),
+    (&["check", "in=a"], "check a"),
+    (&["check", "workers=16", "in=a"], "check a workers 16"),
+    (&["check"], "1"),
+    (&["check", "workers=2"], "2"),
+    (&["check", "in=a", "workers=0"], "2"),
+    (&["check", "in=a", "workers=17"], "2"),
+    (&["check", "in=a", "workers=2", "workers=2"], "3"),
+    (&["check", "in=a", "out=b"], "2"),
+    (&["check", "in=a", "part=0"], "2"),
+    (&["check", "in=a", "in=b"], "2"),
     (&["extract"], "1"),
     (&["extract", "in=a"], "2"),
     (&["extract", "out=b"], "2"),
