@@ -152,7 +152,7 @@ one_rank : (r s : ℕ) → (r < s → ⊥) → (s < r → ⊥) → r ≡ s
 one_rank r s not_less not_more =
     elim (cases_lt r s) [
       | inl lt ↦ absurd (not_less lt)
-      | inr le ↦ elim (cases_lt s r) [ | inl lt ↦ absurd (not_more lt) | inr ge ↦ omega (arith, le, ge) ]
+      | inr le ↦ elim (cases_lt s r) [ inl lt ↦ absurd (not_more lt) | inr ge ↦ omega (arith, le, ge) ]
     ]
 
 -- a chunk with a fault is none of the first that have content

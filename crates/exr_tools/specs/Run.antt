@@ -209,7 +209,7 @@ IsTooMuch why file d = ⊥
 -- the chunk with which a deep part has too many bytes
 abbrev pub IsUnread : Stop → ℕ → List ℕ → Demand → Type 0
 IsUnread (File number (fault.Head f)) input file d = (number ≡ input) × (head_of file ≡ Err f)
-IsUnread (File number (fault.Chunk p i f)) input file d = 
+IsUnread (File number (fault.Chunk p i f)) input file d =
     (number ≡ input) × ((p ≡ d.part) × (HasFirstFault file d i f ⊎ HasFirstDeepFault file d i f))
 IsUnread (Request r) input file d = IsRefusedBy r file d ⊎ IsTooMuch r file d
 IsUnread stop input file d = ⊥

@@ -163,10 +163,18 @@ fn imaged<R: Threads + Sync, W: World, S: Source, G: Gate>(
         (λ due. IsTrue S.means.tells → IsUnread due extraction.now.file (S.means.content stream.old.source) (demand_of extraction.now.asked))
         (Rose (S.means.faults stream.old.source) (S.means.faults stream.new.source)) ⊥) }
 {
-    let part = extraction.asked.part;
-    match read_deep(rt, alloc, stream, part, window, extraction.work(), gate) {
+    let asked = &extraction.asked;
+    match read_deep(
+        rt,
+        alloc,
+        stream,
+        asked.part,
+        window,
+        extraction.work(),
+        gate,
+    ) {
         Ok(image) => Ok(image.bytes(alloc)?),
-        Err(stop) => Err(deep_stop_of(extraction.file, part, stop)),
+        Err(stop) => Err(deep_stop_of(extraction.file, asked.part, stop)),
     }
 }
 
