@@ -145,13 +145,7 @@ fn answered(alloc: Global, part: &Header, asked: &Asked) -> Result<Granted, Refu
     if is_deep {
         return Ok(Granted::Deep(window));
     }
-    Ok(Granted::Flat(framed(
-        alloc,
-        part,
-        asked,
-        window,
-        channels.as_slice(),
-    )?))
+    Ok(Granted::Flat(framed(alloc, part, asked, window, channels.as_slice())?))
 }
 
 /// The layout of the buffer that is asked for, matched with the part, or of a deep part the window, or the first reason why

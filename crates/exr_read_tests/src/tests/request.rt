@@ -7,9 +7,7 @@ use exr_base::{Kind, Refusal};
 use exr_fixtures::{ChannelSpec, ONE_PIXEL, Picture, Y, flagged_head};
 use exr_header::{FileHead, read_head};
 use exr_layout::{LayoutFault, MatchFault};
-use exr_request::{
-    Arrangement, Asked, Choices, Fitted, Granted, RequestFault, Wanted, request,
-};
+use exr_request::{Arrangement, Asked, Choices, Fitted, Granted, RequestFault, Wanted, request};
 use std::alloc::Global;
 use std::test::Fail;
 
@@ -255,11 +253,7 @@ const CASES: &[Case] = &[
         LINES,
         Ok((48, &[(0, 12, 0, 2, Some(0)), (0, 12, 4, 2, Some(1))])),
     ),
-    (
-        MIXED,
-        PIXELS,
-        Err(RequestFault::Mixed { slice: 1 }),
-    ),
+    (MIXED, PIXELS, Err(RequestFault::Mixed { slice: 1 })),
 ];
 
 /// The slices of what is granted.
@@ -335,8 +329,20 @@ const DEEP: (u32, &[u8]) = (
 /// What is asked of a deep part, and its window or why it is refused.
 const OF_DEEP: &[(Request, Result<[i32; 4], RequestFault>)] = &[
     (ALL, Ok([0, 0, 0, 0])),
-    (Request { window: Some([0, 0, 0, 0]), ..ALL }, Ok([0, 0, 0, 0])),
-    (Request { arranged: true, ..ALL }, Err(RequestFault::DeepWords)),
+    (
+        Request {
+            window: Some([0, 0, 0, 0]),
+            ..ALL
+        },
+        Ok([0, 0, 0, 0]),
+    ),
+    (
+        Request {
+            arranged: true,
+            ..ALL
+        },
+        Err(RequestFault::DeepWords),
+    ),
     // the words before the window
     (
         Request {
@@ -375,7 +381,10 @@ const OF_DEEP: &[(Request, Result<[i32; 4], RequestFault>)] = &[
 fn deep_parts(rt: HostRuntime) -> Result<(), Fail> {
     let (flags, more) = DEEP;
     for (request, wanted) in OF_DEEP {
-        match (answered(rt.alloc(), flags, &ONE_PIXEL, more, request)?, wanted) {
+        match (
+            answered(rt.alloc(), flags, &ONE_PIXEL, more, request)?,
+            wanted,
+        ) {
             (Ok(Granted::Deep(window)), Ok([x0, y0, x1, y1])) => {
                 assert!(rt; (window.x0, window.y0, window.x1, window.y1) == (*x0, *y0, *x1, *y1));
             }

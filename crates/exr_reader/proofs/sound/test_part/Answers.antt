@@ -27,11 +27,14 @@ returns-in-Err-clause-cause g c =
     let i = c.loop-index.index in
     let way = c.loop-index.invariant in
     stop_by c.in-Err.stop _ (λ p n fault. (p ≡ part) × (IsTrue means.tells → IsFirstUnsoundOf file part n fault)) _ (Rose (means.faults s.source) (means.faults c.test_chunk.new.stream.source))
-    (λ p n fault has. (has.0, λ told. subst (λ k. IsFirstUnsoundOf file part k fault) (sym (has.1).0) (record {
-      within = search rules;
-      broken = subst (λ (o : Opened). IsUnsound (raw_of o part i) fault) (file_same means s c.loop-index.stream way.same told) ((has.1).1 told);
-      before = way.sound told;
-    })))
+    (λ p n fault has. (
+      has.0,
+      λ told. subst (λ k. IsFirstUnsoundOf file part k fault) (sym (has.1).0) (record {
+        within = search rules;
+        broken = subst (λ (o : Opened). IsUnsound (raw_of o part i) fault) (file_same means s c.loop-index.stream way.same told) ((has.1).1 told);
+        before = way.sound told;
+      }),
+    ))
     (λ rose. let later = way.later in omega (arith, rose, later))
     c.in-Err.ensures.cause
 
