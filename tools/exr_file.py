@@ -3,7 +3,7 @@ Nothing is validated, so that a script can spell files that no reader accepts.""
 import struct
 
 MAGIC = b"\x76\x2f\x31\x01"
-TILED, MULTI = 0x200, 0x1000  # flags of the version word
+TILED, DEEP, MULTI = 0x200, 0x800, 0x1000  # flags of the version word
 UINT, HALF, FLOAT = 0, 1, 2
 ONE = struct.pack("<f", 1.0)
 
@@ -41,6 +41,11 @@ def head(attributes, flags=0):
     return front(flags) + attributes + b"\0"
 
 
+def deep(attributes, kind=b"deepscanline"):
+    """The attributes of a deep part: those that each header has, and its type and version."""
+    return attributes + attribute(b"type", b"string", kind) + attribute(b"version", b"int", struct.pack("<i", 1))
+
+
 def part(attributes, name, chunks, kind=b"scanlineimage"):
     """The header of a part among others, which has `chunks` chunks."""
     return (attributes + attribute(b"name", b"string", name) + attribute(b"type", b"string", kind)
@@ -65,6 +70,11 @@ def tile_fields(column, row):
 def chunk(fields, packed):
     """A chunk: its place, the size of its data, and the data."""
     return fields + struct.pack("<I", len(packed)) + packed
+
+
+def deep_chunk(fields, table, samples, unpacked):
+    """A chunk of a deep part: its place, the sizes of its table and samples, the size that the samples have unpacked, and both."""
+    return fields + struct.pack("<3Q", len(table), len(samples), unpacked) + table + samples
 
 
 def offsets(first, sizes):

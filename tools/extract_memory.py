@@ -1,6 +1,6 @@
 #!/usr/bin/env python3
-"""Measures what `exr extract` takes for small files that claim much: the status, the peak and the processor time of the
-program. Prints the table of docs/PERFORMANCE.md, and stops where a peak passes 32 MiB.
+"""Measures what `exr extract` and `exr check` take for small files that claim much: the status, the peak and the processor
+time of the program. Prints the table of docs/PERFORMANCE.md, and stops where a peak passes 32 MiB.
 
 Use: tools/extract_memory.py, at the top of the repository, after `rt ci exr` has built the program.
 """
@@ -42,6 +42,18 @@ def ten_bytes(method, lines):
     return exr_file.file_of(front, [exr_file.chunk(exr_file.line_fields(0), bytes(10))])
 
 
+def deep_head(width, height, method=0):
+    """The head of a deep picture of scan lines with one HALF channel."""
+    one = [exr_file.channel(b"A")]
+    return exr_file.head(exr_file.deep(exr_file.picture(one, (0, 0, width - 1, height - 1), method)), exr_file.DEEP)
+
+
+def deep_chunk(width, table, samples, unpacked, method):
+    """A deep picture of one line, with one chunk of this data."""
+    chunk = exr_file.deep_chunk(exr_file.line_fields(0), table, samples, unpacked)
+    return exr_file.file_of(deep_head(width, 1, method), [chunk])
+
+
 def cases():
     yield "1 by 2^20 pixels claimed, 300 bytes", head(1, 1 << 20).ljust(300, b"a")
     yield "2^20 by 512 pixels claimed (a buffer of 2^30 bytes), 300 bytes", head(1 << 20, 512).ljust(300, b"a")
@@ -52,15 +64,19 @@ def cases():
     yield "46 such parts in blocks of 32 lines", blocks(46, 1, 720720, divisors)
     for name, method, lines in (("RLE", 1, 1), ("PIZ", 4, 32), ("B44", 6, 32), ("B44A", 7, 32)):
         yield f"a chunk of ten bytes that claims 2^26 raw ones, {name}", ten_bytes(method, lines)
+    yield "2^20 by 2^20 deep pixels claimed, 600 bytes", deep_head(1 << 20, 1 << 20).ljust(600, b"a")
+    yield "2^20 deep pixels whose ten bytes of counts claim 2^22, RLE", deep_chunk(1 << 20, bytes(10), b"", 0, 1)
+    yield "a deep pixel whose ten bytes of samples claim 2^26, RLE", deep_chunk(1, (1 << 25).to_bytes(4, "little"), bytes(10), 1 << 26, 1)
 
 
 def main():
-    print("| file | status | file, bytes | peak, MiB | time, ms |")
+    print("| command, file | status | file, bytes | peak, MiB | time, ms |")
     print("|---|---|---|---|---|")
-    for name, data, status, peak, time in measured(["extract", "in={in}", "out={out}"], cases()):
-        print(f"| {name} | {status} | {len(data):,} | {peak / 1024:.1f} | {time / 1000:.1f} |", flush=True)
-        if status == 0 or peak > 32 * 1024:
-            sys.exit("not refused, or with too much memory")
+    for words in (["extract", "in={in}", "out={out}"], ["check", "in={in}"]):
+        for name, data, status, peak, time in measured(words, cases()):
+            print(f"| {words[0]}, {name} | {status} | {len(data):,} | {peak / 1024:.1f} | {time / 1000:.1f} |", flush=True)
+            if status == 0 or peak > 32 * 1024:
+                sys.exit("not refused, or with too much memory")
 
 
 if __name__ == "__main__":
