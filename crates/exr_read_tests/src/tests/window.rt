@@ -10,7 +10,7 @@ use exr_fixtures::{ONE_PIXEL, Picture, file_of, line_chunk, single_head, tile_ch
 use exr_layout::match_part;
 use exr_outside::{Gate, MemSource, Source, World};
 use exr_reader::{ReadCause, ReadStop, Work, read_window};
-use exr_request::request;
+use exr_request::{Granted, request};
 use exr_stream::{OpenStop, Stream};
 use std::alloc::Global;
 use std::marker::Brand;
@@ -74,7 +74,7 @@ fn read_stream<R: Threads + Sync, W: World, S: Source>(
     if stream.head().parts().is_empty() || round == 0 {
         return Err("no part".into());
     }
-    let Ok(granted) = request(alloc, stream.head(), asked) else {
+    let Ok(Granted::Flat(granted)) = request(alloc, stream.head(), asked) else {
         return Err("refused".into());
     };
     let part = stream.header(0);
