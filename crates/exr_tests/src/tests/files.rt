@@ -8,7 +8,6 @@ use exr_fixtures::{
 use std::alloc::Global;
 
 /// The place that a chunk names: its first line, or the column and the row of its tile.
-#[derive(Clone, Copy)]
 pub enum Place {
     Line(i32),
     Tile(u32, u32),
@@ -18,7 +17,6 @@ pub enum Place {
 pub type Chunk = (Place, &'static [u8]);
 
 /// A file whose chunks follow one another in the order of the offset tables.
-#[derive(Clone, Copy)]
 pub enum File {
     /// One part.
     One(Picture<'static>, &'static [Chunk]),
@@ -32,31 +30,31 @@ pub enum File {
 fn chunk_bytes(
     alloc: Global,
     part: Option<u32>,
-    (place, packed): Chunk,
+    (place, packed): &Chunk,
 ) -> Result<Vec<u8>, NoMemory> {
     match place {
-        Place::Line(line) => line_chunk(alloc, part, line, packed),
-        Place::Tile(column, row) => tile_chunk(alloc, part, (column, row), packed),
+        Place::Line(line) => line_chunk(alloc, part, *line, packed),
+        Place::Tile(column, row) => tile_chunk(alloc, part, (*column, *row), packed),
     }
 }
 
 /// The bytes of a file.
-pub fn bytes_of(alloc: Global, file: File) -> Result<Vec<u8>, NoMemory> {
+pub fn bytes_of(alloc: Global, file: &File) -> Result<Vec<u8>, NoMemory> {
     let mut all = Vec::new(alloc);
     match file {
         File::One(picture, chunks) => {
-            for chunk in chunks {
-                all.push(chunk_bytes(alloc, None, *chunk)?)?;
+            for chunk in *chunks {
+                all.push(chunk_bytes(alloc, None, chunk)?)?;
             }
-            file_of(alloc, &single_head(alloc, &picture, b"")?, &all)
+            file_of(alloc, &single_head(alloc, picture, b"")?, &all)
         }
         File::Many(parts, chunks) => {
-            for (part, chunk) in chunks {
-                all.push(chunk_bytes(alloc, Some(*part), *chunk)?)?;
+            for (part, chunk) in *chunks {
+                all.push(chunk_bytes(alloc, Some(*part), chunk)?)?;
             }
             file_of(alloc, &part_head(alloc, parts)?, &all)
         }
-        File::Head(flags, more) => flagged_head(alloc, flags, &ONE_PIXEL, more),
+        File::Head(flags, more) => flagged_head(alloc, *flags, &ONE_PIXEL, more),
     }
 }
 
