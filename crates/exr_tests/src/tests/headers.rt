@@ -94,7 +94,11 @@ fn texts(rt: HostRuntime) -> Result<(), Fail> {
             Ok(text) => has_lines(text, wanted),
             Err(_) => false,
         };
-        expect(&rt, case, is_right && got.stop.is_none() && got.written.is_none());
+        expect(
+            &rt,
+            case,
+            is_right && got.stop.is_none() && got.written.is_none(),
+        );
     }
     Ok(())
 }

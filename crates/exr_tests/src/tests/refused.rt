@@ -414,9 +414,16 @@ fn requests(rt: HostRuntime) -> Result<(), Fail> {
     Ok(())
 }
 
-/// Requests for a deep part, and for a part that is not there beside it. A deep part is refused once it is known to be there.
+/// Requests for a deep part, and for a part that is not there beside it.
 const DEEP_PARTS: &[(&[&str], Stop)] = &[
-    (&["part=0", "window=0,0,9,9"], Stop::Form),
+    (
+        &["part=0", "window=0,0,9,9"],
+        Stop::Request(RequestFault::Window),
+    ),
+    (
+        &["part=0", "pad=1", "window=0,0,9,9"],
+        Stop::Request(RequestFault::DeepWords),
+    ),
     (&["part=1"], Stop::Request(RequestFault::NoPart)),
 ];
 
@@ -439,7 +446,7 @@ fn is_extracted_or_refused(
 ) -> Result<bool, Fail> {
     let got = extracted(rt, rt.alloc(), bytes, &[], None)?;
     Ok(match got.stop {
-        Some(stop) => [3, 6, 7].contains(&stop.status()) && got.is_refused(stop),
+        Some(stop) => [3, 6].contains(&stop.status()) && got.is_refused(stop),
         None => got.written.is_some() && !got.printed.is_empty(),
     })
 }

@@ -59,7 +59,11 @@ fn missing_files(rt: HostRuntime) -> Result<(), Fail> {
     let bytes = bytes_of(rt.alloc(), &ONE)?;
     for (case, words) in MISSING.iter().enumerate() {
         let got = outcome_of(&rt, rt.alloc(), words, &bytes, None)?;
-        expect(&rt, case, got.stop == Some(Stop::Read) && got.has_faults(1, 0));
+        expect(
+            &rt,
+            case,
+            got.stop == Some(Stop::Read) && got.has_faults(1, 0),
+        );
     }
     Ok(())
 }
@@ -174,7 +178,7 @@ fn calls_of_header_that_fail(rt: HostRuntime) -> Result<(), Fail> {
 }
 
 /// Stops, with their statuses and lines.
-const LINES: [(Stop, u8, &str); 8] = [
+const LINES: [(Stop, u8, &str); 7] = [
     (Stop::NoMemory, 1, "exr: no memory\n"),
     (Stop::Words { position: 2 }, 2, "exr: word 2\n"),
     (
@@ -204,7 +208,6 @@ const LINES: [(Stop, u8, &str); 8] = [
         6,
         "exr: request fault 6\n",
     ),
-    (Stop::Form, 7, "exr: form\n"),
 ];
 
 #[test]

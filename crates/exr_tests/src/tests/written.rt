@@ -16,10 +16,12 @@ type Row = (File, &'static [&'static str], &'static [u8]);
 fn is_written(alloc: Global, got: &Outcome, wanted: &[u8]) -> Result<bool, Fail> {
     let count = wanted.len();
     let line = format!(in alloc; "extract bytes {count}\n")?;
-    Ok(got.stop.is_none()
-        && got.written.as_deref() == Some(wanted)
-        && got.printed.as_slice() == line.as_bytes()
-        && got.has_faults(0, 0))
+    Ok(
+        got.stop.is_none()
+            && got.written.as_deref() == Some(wanted)
+            && got.printed.as_slice() == line.as_bytes()
+            && got.has_faults(0, 0),
+    )
 }
 
 // The samples are written, and their number is printed.
