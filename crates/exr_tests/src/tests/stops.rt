@@ -1,5 +1,6 @@
 //! The words, the calls that fail, and the statuses and lines of stops.
 
+use super::deep::TWO_DEEP;
 use super::files::{File, ONE, PARTS, TILES, bytes_of};
 use super::methods::ZEROS;
 use super::runs::{Call, Outcome, ROOM, expect, extracted, outcome_of};
@@ -69,15 +70,15 @@ fn missing_files(rt: HostRuntime) -> Result<(), Fail> {
 }
 
 /// Whether a run stopped since a call of this kind failed: its count has gone up, and nothing is printed. What was written is
-/// a beginning of what a run without failures writes.
-fn is_stop_of(call: Call, got: &Outcome, whole: &[u8]) -> bool {
+/// a beginning of what a run without failures writes, if it writes a file.
+fn is_stop_of(call: Call, got: &Outcome, whole: Option<&[u8]>) -> bool {
     let written = got.written.as_deref();
     let empty: &[u8] = &[];
     let (stop, read, write, kept) = match call {
         Call::Open | Call::Len | Call::Read => (Stop::Read, 1, 0, None),
         Call::Create => (Stop::Write, 0, 1, None),
         Call::Append => (Stop::Write, 0, 1, Some(empty)),
-        Call::Print => (Stop::Write, 0, 0, Some(whole)),
+        Call::Print => (Stop::Write, 0, 0, whole),
     };
     got.printed.is_empty()
         && got.stop == Some(stop)
@@ -88,38 +89,40 @@ fn is_stop_of(call: Call, got: &Outcome, whole: &[u8]) -> bool {
 /// Lets a call fail, and says whether it was made: then the run stops for it.
 fn stops_at(
     rt: &(impl Abort + AllocGlobal + Threads + Sync),
+    words: &[&str],
     bytes: &[u8],
     call: Call,
     number: u64,
-    whole: &[u8],
+    whole: Option<&[u8]>,
 ) -> Result<bool, Fail> {
-    let got = extracted(rt, rt.alloc(), bytes, &[], Some((call, number)))?;
+    let got = outcome_of(rt, rt.alloc(), words, bytes, Some((call, number)))?;
     let is_made = got.stop.is_some();
     let is_right = if is_made {
         is_stop_of(call, &got, whole)
     } else {
-        got.written.as_deref() == Some(whole)
+        got.written.as_deref() == whole && !got.printed.is_empty()
     };
     assert!(rt; is_right, "call {number}");
     Ok(is_made)
 }
 
-/// How many calls of a kind extracting makes, each of which stops the run where it fails.
+/// How many calls of a kind a run makes, each of which stops the run where it fails.
 fn count_of(
     rt: &(impl Abort + AllocGlobal + Threads + Sync),
+    words: &[&str],
     bytes: &[u8],
     call: Call,
-    whole: &[u8],
+    whole: Option<&[u8]>,
 ) -> Result<u64, Fail> {
     for number in 0..1000 {
-        if !stops_at(rt, bytes, call, number, whole)? {
+        if !stops_at(rt, words, bytes, call, number, whole)? {
             return Ok(number);
         }
     }
     Err("fewer calls")?
 }
 
-/// The kinds of calls, each with how often a run makes it at least.
+/// The kinds of calls, each with how often `extract` makes it at least.
 const CALLS: [(Call, u64); 6] = [
     (Call::Open, 1),
     (Call::Create, 1),
@@ -129,8 +132,19 @@ const CALLS: [(Call, u64); 6] = [
     (Call::Print, 1),
 ];
 
+/// The same of `check`, which creates nothing.
+const OF_CHECK: [(Call, u64); 4] = [
+    (Call::Open, 1),
+    (Call::Len, 1),
+    (Call::Read, 2),
+    (Call::Print, 1),
+];
+
 /// The files whose calls fail in turn.
-const FILES: &[File] = &[ONE, TILES, ZEROS, PARTS];
+const FILES: &[File] = &[ONE, TILES, ZEROS, PARTS, TWO_DEEP];
+
+/// The words of `extract`.
+const EXTRACT: &[&str] = &["extract", "in=a", "out=b"];
 
 #[test]
 fn calls_that_fail(rt: HostRuntime) -> Result<(), Fail> {
@@ -140,7 +154,19 @@ fn calls_that_fail(rt: HostRuntime) -> Result<(), Fail> {
             .written
             .ok_or("a file")?;
         for (call, least) in CALLS {
-            let count = count_of(&rt, &bytes, call, &whole)?;
+            let count = count_of(&rt, EXTRACT, &bytes, call, Some(&whole))?;
+            assert!(rt; count >= least);
+        }
+    }
+    Ok(())
+}
+
+#[test]
+fn calls_of_check_that_fail(rt: HostRuntime) -> Result<(), Fail> {
+    for file in FILES {
+        let bytes = bytes_of(rt.alloc(), file)?;
+        for (call, least) in OF_CHECK {
+            let count = count_of(&rt, &["check", "in=a"], &bytes, call, None)?;
             assert!(rt; count >= least);
         }
     }
