@@ -18,7 +18,7 @@ const CHANNELS: &[ChannelSpec<'static>] = &[
     },
 ];
 
-/// Another program's file of two pixels that have one and two samples: 477 bytes, of which the head has 417 and the offset
+/// Another program's file of two pixels that have one and two samples: 479 bytes, of which the head has 417 and the offset
 /// table 8. The chunk names its line, and the sizes of its table, of its samples and of its samples unpacked.
 pub const TWO_DEEP: File = File::Deep(
     Picture {
