@@ -1,5 +1,7 @@
 //! Tables of files, words and failing calls, and what comes of them.
 
+mod checked;
+mod deep;
 mod edits;
 mod files;
 mod headers;

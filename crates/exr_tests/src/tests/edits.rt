@@ -8,7 +8,7 @@ use std::test::Fail;
 pub type Edits = &'static [(usize, u8)];
 
 /// The bytes of a file after the edits.
-pub fn edited(alloc: Global, file: File, edits: Edits) -> Result<Vec<u8>, Fail> {
+pub fn edited(alloc: Global, file: &File, edits: Edits) -> Result<Vec<u8>, Fail> {
     let mut bytes = bytes_of(alloc, file)?;
     for (place, byte) in edits {
         *bytes.get_mut(*place).ok_or("a place")? = *byte;

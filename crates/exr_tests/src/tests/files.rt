@@ -8,7 +8,6 @@ use exr_fixtures::{
 use std::alloc::Global;
 
 /// The place that a chunk names: its first line, or the column and the row of its tile.
-#[derive(Clone, Copy)]
 pub enum Place {
     Line(i32),
     Tile(u32, u32),
@@ -18,7 +17,6 @@ pub enum Place {
 pub type Chunk = (Place, &'static [u8]);
 
 /// A file whose chunks follow one another in the order of the offset tables.
-#[derive(Clone, Copy)]
 pub enum File {
     /// One part.
     One(Picture<'static>, &'static [Chunk]),
@@ -26,37 +24,48 @@ pub enum File {
     Many(&'static [PartSpec<'static>], &'static [(u32, Chunk)]),
     /// The head of one pixel with flags of the version word, and with more attributes.
     Head(u32, &'static [u8]),
+    /// A deep part in scan lines, of one chunk.
+    Deep(Picture<'static>, &'static [u8]),
 }
+
+/// What the header of such a part has after the attributes of each header.
+const OF_DEEP: &[u8] = b"\
+    name\0string\0\x04\0\0\0deeptype\0string\0\x0c\0\0\0deepscanlineversion\0int\0\x04\0\0\0\x01\0\0\0\
+    chunkCount\0int\0\x04\0\0\0\x01\0\0\0maxSamplesPerPixel\0int\0\x04\0\0\0\xff\xff\xff\xff";
 
 /// The bytes of a chunk.
 fn chunk_bytes(
     alloc: Global,
     part: Option<u32>,
-    (place, packed): Chunk,
+    (place, packed): &Chunk,
 ) -> Result<Vec<u8>, NoMemory> {
     match place {
-        Place::Line(line) => line_chunk(alloc, part, line, packed),
-        Place::Tile(column, row) => tile_chunk(alloc, part, (column, row), packed),
+        Place::Line(line) => line_chunk(alloc, part, *line, packed),
+        Place::Tile(column, row) => tile_chunk(alloc, part, (*column, *row), packed),
     }
 }
 
 /// The bytes of a file.
-pub fn bytes_of(alloc: Global, file: File) -> Result<Vec<u8>, NoMemory> {
+pub fn bytes_of(alloc: Global, file: &File) -> Result<Vec<u8>, NoMemory> {
     let mut all = Vec::new(alloc);
     match file {
         File::One(picture, chunks) => {
-            for chunk in chunks {
-                all.push(chunk_bytes(alloc, None, *chunk)?)?;
+            for chunk in *chunks {
+                all.push(chunk_bytes(alloc, None, chunk)?)?;
             }
-            file_of(alloc, &single_head(alloc, &picture, b"")?, &all)
+            file_of(alloc, &single_head(alloc, picture, b"")?, &all)
         }
         File::Many(parts, chunks) => {
-            for (part, chunk) in chunks {
-                all.push(chunk_bytes(alloc, Some(*part), *chunk)?)?;
+            for (part, chunk) in *chunks {
+                all.push(chunk_bytes(alloc, Some(*part), chunk)?)?;
             }
             file_of(alloc, &part_head(alloc, parts)?, &all)
         }
-        File::Head(flags, more) => flagged_head(alloc, flags, &ONE_PIXEL, more),
+        File::Head(flags, more) => flagged_head(alloc, *flags, &ONE_PIXEL, more),
+        File::Deep(picture, chunk) => {
+            all.push(chunk.to_vec(alloc)?)?;
+            file_of(alloc, &flagged_head(alloc, 0x800, picture, OF_DEEP)?, &all)
+        }
     }
 }
 
@@ -183,6 +192,65 @@ pub const PARTS: File = File::Many(
         (0, (Place::Line(0), b"aL")),
         (1, (Place::Tile(0, 0), b"aRbR")),
         (1, (Place::Tile(1, 0), b"cR")),
+    ],
+);
+
+/// The same parts, where the last chunk of the second has one byte and not two.
+pub const BROKEN_RIGHT: File = File::Many(
+    &[LEFT, RIGHT],
+    &[
+        (0, (Place::Line(0), b"aL")),
+        (1, (Place::Tile(0, 0), b"aRbR")),
+        (1, (Place::Tile(1, 0), b"c")),
+    ],
+);
+
+/// The same parts, where the first is packed under ZIP.
+pub const UNREAD_LEFT: File = File::Many(
+    &[
+        PartSpec {
+            picture: Picture {
+                method: 3,
+                ..ONE_PIXEL
+            },
+            ..LEFT
+        },
+        RIGHT,
+    ],
+    &[
+        (0, (Place::Line(0), b"a")),
+        (1, (Place::Tile(0, 0), b"aRbR")),
+        (1, (Place::Tile(1, 0), b"cR")),
+    ],
+);
+
+/// Twenty lines of one pixel, of which the one of line 17 says that it is line 0.
+pub const MISPLACED: File = File::One(
+    Picture {
+        window: [0, 0, 0, 19],
+        ..ONE_PIXEL
+    },
+    &[
+        (Place::Line(0), b"\0<"),
+        (Place::Line(1), b"\x01<"),
+        (Place::Line(2), b"\x02<"),
+        (Place::Line(3), b"\x03<"),
+        (Place::Line(4), b"\x04<"),
+        (Place::Line(5), b"\x05<"),
+        (Place::Line(6), b"\x06<"),
+        (Place::Line(7), b"\x07<"),
+        (Place::Line(8), b"\x08<"),
+        (Place::Line(9), b"\x09<"),
+        (Place::Line(10), b"\x0a<"),
+        (Place::Line(11), b"\x0b<"),
+        (Place::Line(12), b"\x0c<"),
+        (Place::Line(13), b"\x0d<"),
+        (Place::Line(14), b"\x0e<"),
+        (Place::Line(15), b"\x0f<"),
+        (Place::Line(16), b"\x10<"),
+        (Place::Line(0), b"\x11<"),
+        (Place::Line(18), b"\x12<"),
+        (Place::Line(19), b"\x13<"),
     ],
 );
 

@@ -44,6 +44,32 @@ pub const ZEROS: File = File::One(
     ],
 );
 
+/// One by thirty-three pixels under ZIP: a packed block of 16 lines, a raw one, and a packed one of one line.
+pub const ZIPPED: File = File::One(
+    TALL,
+    &[
+        (Place::Line(0), b"a"),
+        (Place::Line(16), b"aYbYcYdYeYfYgYhYiYjYkYlYmYnYoYpY"),
+        (Place::Line(32), b"q"),
+    ],
+);
+
+/// The same with two packed blocks, and one that is larger than its raw data.
+pub const ZIPPED_LARGE: File = File::One(
+    TALL,
+    &[
+        (Place::Line(0), b"a"),
+        (Place::Line(16), b"b"),
+        (Place::Line(32), b"abc"),
+    ],
+);
+
+const TALL: Picture<'static> = Picture {
+    window: [0, 0, 0, 32],
+    method: ZIP,
+    ..ONE_PIXEL
+};
+
 /// Sixteen by thirty-two zeros.
 pub const ZEROS_32: &[u8] = b"\
     \xff\x1f\0\0\x19\0\0\0\0\0\0\0\x01\0\0\0\x02\0\0\0\x14\0\0\0\0\0\0\0\x04\x10\x7f\xdf\xf0";

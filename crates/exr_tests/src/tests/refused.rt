@@ -6,7 +6,7 @@ use super::files::{
     VAST, bytes_of,
 };
 use super::methods::{B44, B44A, CELLS, PIZ, PXR24, RLE, ZEROS, ZIP};
-use super::runs::{extracted, outcome_of};
+use super::runs::{expect, extracted, outcome_of};
 use exr_attributes::{Bound, Field, HeaderFault};
 use exr_b44::B44Fault;
 use exr_base::Method;
@@ -21,14 +21,13 @@ use std::thread::Threads;
 /// Checks that extracting from a file stops so, that nothing was created or printed, and that no call failed.
 fn check_stop(
     rt: &(impl Abort + AllocGlobal + Threads + Sync),
+    case: usize,
     bytes: &[u8],
     more: &[&str],
     stop: Stop,
 ) -> Result<(), Fail> {
     let got = extracted(rt, rt.alloc(), bytes, more, None)?;
-    assert_eq!(rt; got.stop, Some(stop), "{more:?}");
-    assert!(rt; got.written.is_none() && got.printed.is_empty());
-    assert_eq!(rt; (got.read_faults, got.write_faults), (0, 0));
+    expect(rt, case, got.is_refused(stop) && got.has_faults(0, 0));
     Ok(())
 }
 
@@ -144,16 +143,13 @@ const HEADS: &[(File, Edits, HeaderFault)] = &[
 
 #[test]
 fn heads(rt: HostRuntime) -> Result<(), Fail> {
-    for (file, edits, fault) in HEADS {
-        let stop = Stop::File {
-            file: 0,
-            fault: FileFault::Head(*fault),
-        };
-        let bytes = edited(rt.alloc(), *file, edits)?;
-        check_stop(&rt, &bytes, &[], stop)?;
+    for (case, (file, edits, fault)) in HEADS.iter().enumerate() {
+        let fault = FileFault::Head(*fault);
+        let stop = Stop::File { file: 0, fault };
+        let bytes = edited(rt.alloc(), file, edits)?;
+        check_stop(&rt, case, &bytes, &[], stop)?;
         let got = outcome_of(&rt, rt.alloc(), &["header", "in=a"], &bytes, None)?;
-        assert_eq!(rt; got.stop, Some(stop));
-        assert!(rt; got.printed.is_empty());
+        expect(&rt, case, got.is_refused(stop));
     }
     Ok(())
 }
@@ -290,53 +286,44 @@ const PACKED: &[Row] = &[
     ),
 ];
 
-/// Checks that each file is refused for its chunk.
-fn check(rt: &(impl Abort + AllocGlobal + Threads + Sync), rows: &[Row]) -> Result<(), Fail> {
-    for (file, edits, part, index, fault) in rows {
-        let fault = FileFault::Chunk {
-            part: *part,
-            index: *index,
-            fault: *fault,
-        };
-        let bytes = edited(rt.alloc(), *file, edits)?;
-        check_stop(rt, &bytes, &[], Stop::File { file: 0, fault })?;
+// Each file is refused for its chunk.
+#[test]
+fn chunks(rt: HostRuntime) -> Result<(), Fail> {
+    for rows in [PLACES, PACKED] {
+        for (case, (file, edits, part, index, fault)) in rows.iter().enumerate() {
+            let (part, index, fault) = (*part, *index, *fault);
+            let fault = FileFault::Chunk { part, index, fault };
+            let bytes = edited(rt.alloc(), file, edits)?;
+            check_stop(&rt, case, &bytes, &[], Stop::File { file: 0, fault })?;
+        }
     }
     Ok(())
 }
 
-#[test]
-fn places_of_chunks(rt: HostRuntime) -> Result<(), Fail> {
-    check(&rt, PLACES)
-}
+/// Edits of one pixel after which it is extracted. Where the data has the raw size it is raw, whatever the method and the
+/// channel's pLinear byte say. The bits that the head and the version word have beside are not looked at.
+const RAW: &[Edits] = &[
+    &[(75, RLE)],
+    &[(75, 2)],
+    &[(75, ZIP)],
+    &[(75, PIZ)],
+    &[(75, PXR24)],
+    &[(75, B44), (34, 1)],
+    &[(75, B44A), (34, 1)],
+    &[(75, 8)],
+    &[(75, 9)],
+    &[(5, 4)],
+    &[(34, 1)],
+    &[(177, 1)],
+];
 
-#[test]
-fn packed_data(rt: HostRuntime) -> Result<(), Fail> {
-    check(&rt, PACKED)
-}
-
-// Where the data has the raw size it is raw, whatever the method and the channel's pLinear byte say. The bits that the head
-// and the version word have beside are not looked at.
 #[test]
 fn raw_data(rt: HostRuntime) -> Result<(), Fail> {
-    const EDITS: &[Edits] = &[
-        &[(75, RLE)],
-        &[(75, 2)],
-        &[(75, ZIP)],
-        &[(75, PIZ)],
-        &[(75, PXR24)],
-        &[(75, B44), (34, 1)],
-        &[(75, B44A), (34, 1)],
-        &[(75, 8)],
-        &[(75, 9)],
-        &[(5, 4)],
-        &[(34, 1)],
-        &[(177, 1)],
-    ];
-    for edits in EDITS {
-        let bytes = edited(rt.alloc(), ONE, edits)?;
+    for (case, edits) in RAW.iter().enumerate() {
+        let bytes = edited(rt.alloc(), &ONE, edits)?;
         let got = extracted(&rt, rt.alloc(), &bytes, &[], None)?;
-        assert_eq!(rt; got.stop, None);
-        assert_eq!(rt; got.written.as_deref(), Some(b"\0<".as_slice()));
+        let is_right = got.stop.is_none() && got.written.as_deref() == Some(b"\0<".as_slice());
+        expect(&rt, case, is_right);
     }
     Ok(())
 }
@@ -420,72 +407,90 @@ const REQUESTS: &[(File, &[&str], RequestFault)] = &[
 
 #[test]
 fn requests(rt: HostRuntime) -> Result<(), Fail> {
-    for (file, more, fault) in REQUESTS {
-        let bytes = bytes_of(rt.alloc(), *file)?;
-        check_stop(&rt, &bytes, more, Stop::Request(*fault))?;
+    for (case, (file, more, fault)) in REQUESTS.iter().enumerate() {
+        let bytes = bytes_of(rt.alloc(), file)?;
+        check_stop(&rt, case, &bytes, more, Stop::Request(*fault))?;
     }
     Ok(())
 }
 
-// A deep part is refused once it is known to be there; its head is read.
+/// Requests for a deep part, and for a part that is not there beside it.
+const DEEP_PARTS: &[(&[&str], Stop)] = &[
+    (
+        &["part=0", "window=0,0,9,9"],
+        Stop::Request(RequestFault::Window),
+    ),
+    (
+        &["part=0", "pad=1", "window=0,0,9,9"],
+        Stop::Request(RequestFault::DeepWords),
+    ),
+    (&["part=1"], Stop::Request(RequestFault::NoPart)),
+];
+
 #[test]
 fn deep_parts(rt: HostRuntime) -> Result<(), Fail> {
-    let bytes = bytes_of(rt.alloc(), DEEP)?;
-    check_stop(&rt, &bytes, &["part=0", "window=0,0,9,9"], Stop::Form)?;
-    check_stop(
-        &rt,
-        &bytes,
-        &["part=1"],
-        Stop::Request(RequestFault::NoPart),
-    )?;
-    let got = outcome_of(&rt, rt.alloc(), &["header", "in=a"], &bytes, None)?;
-    assert_eq!(rt; got.stop, None);
+    let bytes = bytes_of(rt.alloc(), &DEEP)?;
+    for (case, (more, stop)) in DEEP_PARTS.iter().enumerate() {
+        check_stop(&rt, case, &bytes, more, *stop)?;
+    }
     Ok(())
 }
 
 /// The bits of a byte.
 const BITS: [u8; 8] = [1, 2, 4, 8, 16, 32, 64, 128];
 
+/// Whether a file is extracted, or refused with nothing created or printed.
+fn is_extracted_or_refused(
+    rt: &(impl Abort + AllocGlobal + Threads + Sync),
+    bytes: &[u8],
+) -> Result<bool, Fail> {
+    let got = extracted(rt, rt.alloc(), bytes, &[], None)?;
+    Ok(match got.stop {
+        Some(stop) => [3, 6].contains(&stop.status()) && got.is_refused(stop),
+        None => got.written.is_some() && !got.printed.is_empty(),
+    })
+}
+
 // A file with one bit changed is extracted, or it is refused and nothing is created or printed.
 #[test]
 fn changed_bits(rt: HostRuntime) -> Result<(), Fail> {
-    let mut bytes = bytes_of(rt.alloc(), ONE)?;
-    for place in 0..bytes.len() {
+    let whole = bytes_of(rt.alloc(), &ONE)?;
+    for place in 0..whole.len() {
         for bit in BITS {
-            *bytes.get_mut(place).ok_or("a place")? ^= bit;
-            let got = extracted(&rt, rt.alloc(), &bytes, &[], None)?;
-            let status = match got.stop {
-                Some(stop) => stop.status(),
-                None => 0,
-            };
-            assert!(rt; [0, 3, 6, 7].contains(&status), "{place} {bit}: {status}");
-            assert_eq!(rt; got.written.is_some(), status == 0);
-            assert_eq!(rt; got.printed.is_empty(), status != 0);
-            *bytes.get_mut(place).ok_or("a place")? ^= bit;
+            let mut bytes = Vec::from_slice(rt.alloc(), &whole)?;
+            if let Some(byte) = bytes.get_mut(place) {
+                *byte ^= bit;
+            }
+            expect(&rt, place, is_extracted_or_refused(&rt, &bytes)?);
         }
     }
     Ok(())
 }
 
-// A file that is cut off ends within its head or its chunk; behind the chunk there may be more.
+/// The fault of one pixel's file that ends here, within its head or its chunk.
+fn fault_of_end(end: usize) -> FileFault {
+    if end < 277 {
+        FileFault::Head(HeaderFault::Truncated { at: end as u64 })
+    } else {
+        FileFault::Chunk {
+            part: 0,
+            index: 0,
+            fault: ChunkFault::Outside,
+        }
+    }
+}
+
+// A file that is cut off ends within its head or its chunk; after the chunk there may be more.
 #[test]
 fn ends_of_files(rt: HostRuntime) -> Result<(), Fail> {
-    let bytes = bytes_of(rt.alloc(), ONE)?;
+    let mut bytes = bytes_of(rt.alloc(), &ONE)?;
     for end in 0..bytes.len() {
-        let fault = if end < 277 {
-            FileFault::Head(HeaderFault::Truncated { at: end as u64 })
-        } else {
-            FileFault::Chunk {
-                part: 0,
-                index: 0,
-                fault: ChunkFault::Outside,
-            }
-        };
-        let beginning = bytes.get(..end).ok_or("a beginning")?;
-        check_stop(&rt, beginning, &[], Stop::File { file: 0, fault })?;
+        let fault = fault_of_end(end);
+        let stop = Stop::File { file: 0, fault };
+        check_stop(&rt, end, &bytes[..end], &[], stop)?;
     }
-    let longer = [bytes.as_slice(), b"more"].concat(rt.alloc())?;
-    let got = extracted(&rt, rt.alloc(), &longer, &[], None)?;
-    assert_eq!(rt; got.stop, None);
+    bytes.extend_from_slice(b"more")?;
+    let got = extracted(&rt, rt.alloc(), &bytes, &[], None)?;
+    assert!(rt; got.stop.is_none());
     Ok(())
 }

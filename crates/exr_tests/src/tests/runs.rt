@@ -13,7 +13,7 @@ use std::test::Fail;
 use std::thread::Threads;
 
 /// A kind of call: of the set of files, of a file that is read, of one that is written, and of standard output.
-#[derive(Clone, Copy, PartialEq, Eq)]
+#[derive(Clone, Copy)]
 pub enum Call {
     Open,
     Create,
@@ -39,15 +39,45 @@ pub struct Outcome {
     pub write_faults: u64,
 }
 
-/// The numbers of the calls of a kind that are to fail.
-fn numbers(alloc: Global, kind: Call, failing: Failing) -> Result<Vec<u64>, AllocError> {
-    let mut numbers = Vec::new(alloc);
-    if let Some((failing, number)) = failing
-        && failing == kind
-    {
-        numbers.push(number)?;
+impl Outcome {
+    /// Whether this is the stop, and nothing was created or printed.
+    pub fn is_refused(&self, stop: Stop) -> bool {
+        self.stop == Some(stop) && self.written.is_none() && self.printed.is_empty()
     }
-    Ok(numbers)
+
+    /// Whether the calls of reading and of writing failed so often.
+    pub fn has_faults(&self, read: u64, write: u64) -> bool {
+        self.read_faults == read && self.write_faults == write
+    }
+}
+
+/// Ends the test where an answer is not that of its case. Cases are counted from 0.
+pub fn expect(rt: &impl Abort, case: usize, is_right: bool) {
+    assert!(rt; is_right, "case {case}");
+}
+
+/// The calls of the set of files and of its files that are to fail, and those of standard output.
+fn fails_of(alloc: Global, failing: Failing) -> Result<(Fails, Vec<u64>), AllocError> {
+    let mut fails = Fails {
+        opens: Vec::new(alloc),
+        creates: Vec::new(alloc),
+        lens: Vec::new(alloc),
+        reads: Vec::new(alloc),
+        appends: Vec::new(alloc),
+        writes: Vec::new(alloc),
+    };
+    let mut prints = Vec::new(alloc);
+    if let Some((call, number)) = failing {
+        match call {
+            Call::Open => fails.opens.push(number)?,
+            Call::Create => fails.creates.push(number)?,
+            Call::Len => fails.lens.push(number)?,
+            Call::Read => fails.reads.push(number)?,
+            Call::Append => fails.appends.push(number)?,
+            Call::Print => prints.push(number)?,
+        }
+    }
+    Ok((fails, prints))
 }
 
 /// Runs the words over one file `a` of these bytes.
@@ -93,15 +123,7 @@ fn ran<R: Threads + Sync, W: World>(
     requires world { AreOf W.bytes_of (named_files files.items) }
     requires few { length words.now < 2 ^ 32 }
 {
-    let fails = Fails {
-        opens: numbers(alloc, Call::Open, failing)?,
-        creates: numbers(alloc, Call::Create, failing)?,
-        lens: numbers(alloc, Call::Len, failing)?,
-        reads: numbers(alloc, Call::Read, failing)?,
-        appends: numbers(alloc, Call::Append, failing)?,
-        writes: Vec::new(alloc),
-    };
-    let prints = numbers(alloc, Call::Print, failing)?;
+    let (fails, prints) = fails_of(alloc, failing)?;
     let mut files = MemFiles::<W>::new(alloc, files, ROOM, fails)?;
     let mut out = MemSink::new(alloc, "", ROOM, prints, Vec::new(alloc))?;
     let stop = run::<_, W, _, _, _>(rt, alloc, words, &mut files, &mut out, &PlainGate).err();

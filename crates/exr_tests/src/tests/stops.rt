@@ -1,8 +1,9 @@
 //! The words, the calls that fail, and the statuses and lines of stops.
 
-use super::files::{ONE, PARTS, TILES, bytes_of};
+use super::deep::TWO_DEEP;
+use super::files::{File, ONE, PARTS, TILES, bytes_of};
 use super::methods::ZEROS;
-use super::runs::{Call, ROOM, extracted, outcome_of};
+use super::runs::{Call, Outcome, ROOM, expect, extracted, outcome_of};
 use exr_attributes::HeaderFault;
 use exr_block::ChunkFault;
 use exr_tools::{FileFault, RequestFault, Stop, stop_line};
@@ -39,70 +40,89 @@ const WORDS: &[(&[&str], u32)] = &[
 
 #[test]
 fn words(rt: HostRuntime) -> Result<(), Fail> {
-    let alloc = rt.alloc();
-    let bytes = bytes_of(alloc, ONE)?;
-    for (words, position) in WORDS {
-        let got = outcome_of(&rt, alloc, words, &bytes, None)?;
+    let bytes = bytes_of(rt.alloc(), &ONE)?;
+    for (case, (words, position)) in WORDS.iter().enumerate() {
+        let got = outcome_of(&rt, rt.alloc(), words, &bytes, None)?;
         let position = *position;
-        assert_eq!(rt; got.stop, Some(Stop::Words { position }), "{words:?}");
-        assert!(rt; got.written.is_none() && got.printed.is_empty());
-    }
-    // names of files that are not there
-    for words in [
-        ["extract", "in=c", "out=b"],
-        ["extract", "in=in=a", "out=b"],
-    ] {
-        let got = outcome_of(&rt, alloc, &words, &bytes, None)?;
-        assert_eq!(rt; got.stop, Some(Stop::Read));
-        assert_eq!(rt; (got.read_faults, got.write_faults), (1, 0));
+        expect(&rt, case, got.is_refused(Stop::Words { position }));
     }
     Ok(())
 }
 
-/// Lets a call fail, and says whether it was made: then the run stops for it, its count has gone up, and nothing is printed.
-/// What was written is a beginning of what a run without failures writes.
+/// Names of files that are not there.
+const MISSING: &[&[&str]] = &[
+    &["extract", "in=c", "out=b"],
+    &["extract", "in=in=a", "out=b"],
+];
+
+#[test]
+fn missing_files(rt: HostRuntime) -> Result<(), Fail> {
+    let bytes = bytes_of(rt.alloc(), &ONE)?;
+    for (case, words) in MISSING.iter().enumerate() {
+        let got = outcome_of(&rt, rt.alloc(), words, &bytes, None)?;
+        expect(
+            &rt,
+            case,
+            got.stop == Some(Stop::Read) && got.has_faults(1, 0),
+        );
+    }
+    Ok(())
+}
+
+/// Whether a run stopped since a call of this kind failed: its count has gone up, and nothing is printed. What was written is
+/// a beginning of what a run without failures writes, if it writes a file.
+fn is_stop_of(call: Call, got: &Outcome, whole: Option<&[u8]>) -> bool {
+    let written = got.written.as_deref();
+    let empty: &[u8] = &[];
+    let (stop, read, write, kept) = match call {
+        Call::Open | Call::Len | Call::Read => (Stop::Read, 1, 0, None),
+        Call::Create => (Stop::Write, 0, 1, None),
+        Call::Append => (Stop::Write, 0, 1, Some(empty)),
+        Call::Print => (Stop::Write, 0, 0, whole),
+    };
+    got.printed.is_empty()
+        && got.stop == Some(stop)
+        && got.has_faults(read, write)
+        && written == kept
+}
+
+/// Lets a call fail, and says whether it was made: then the run stops for it.
 fn stops_at(
     rt: &(impl Abort + AllocGlobal + Threads + Sync),
+    words: &[&str],
     bytes: &[u8],
     call: Call,
     number: u64,
-    whole: &[u8],
+    whole: Option<&[u8]>,
 ) -> Result<bool, Fail> {
-    let got = extracted(rt, rt.alloc(), bytes, &[], Some((call, number)))?;
-    if got.stop.is_none() {
-        assert_eq!(rt; got.written.as_deref(), Some(whole));
-        return Ok(false);
-    }
-    assert!(rt; got.printed.is_empty());
-    let written = got.written.as_deref();
-    let (stop, faults, kept) = match call {
-        Call::Open | Call::Len | Call::Read => (Stop::Read, (1, 0), None),
-        Call::Create => (Stop::Write, (0, 1), None),
-        Call::Append => (Stop::Write, (0, 1), Some(b"".as_slice())),
-        Call::Print => (Stop::Write, (0, 0), Some(whole)),
+    let got = outcome_of(rt, rt.alloc(), words, bytes, Some((call, number)))?;
+    let is_made = got.stop.is_some();
+    let is_right = if is_made {
+        is_stop_of(call, &got, whole)
+    } else {
+        got.written.as_deref() == whole && !got.printed.is_empty()
     };
-    assert_eq!(rt; got.stop, Some(stop));
-    assert_eq!(rt; (got.read_faults, got.write_faults), faults);
-    assert_eq!(rt; written, kept);
-    Ok(true)
+    assert!(rt; is_right, "call {number}");
+    Ok(is_made)
 }
 
-/// How many calls of a kind extracting makes, each of which stops the run where it fails.
+/// How many calls of a kind a run makes, each of which stops the run where it fails.
 fn count_of(
     rt: &(impl Abort + AllocGlobal + Threads + Sync),
+    words: &[&str],
     bytes: &[u8],
     call: Call,
-    whole: &[u8],
+    whole: Option<&[u8]>,
 ) -> Result<u64, Fail> {
     for number in 0..1000 {
-        if !stops_at(rt, bytes, call, number, whole)? {
+        if !stops_at(rt, words, bytes, call, number, whole)? {
             return Ok(number);
         }
     }
     Err("fewer calls")?
 }
 
-/// The kinds of calls, each with how often a run makes it at least.
+/// The kinds of calls, each with how often `extract` makes it at least.
 const CALLS: [(Call, u64); 6] = [
     (Call::Open, 1),
     (Call::Create, 1),
@@ -112,15 +132,41 @@ const CALLS: [(Call, u64); 6] = [
     (Call::Print, 1),
 ];
 
+/// The same of `check`, which creates nothing.
+const OF_CHECK: [(Call, u64); 4] = [
+    (Call::Open, 1),
+    (Call::Len, 1),
+    (Call::Read, 2),
+    (Call::Print, 1),
+];
+
+/// The files whose calls fail in turn.
+const FILES: &[File] = &[ONE, TILES, ZEROS, PARTS, TWO_DEEP];
+
+/// The words of `extract`.
+const EXTRACT: &[&str] = &["extract", "in=a", "out=b"];
+
 #[test]
 fn calls_that_fail(rt: HostRuntime) -> Result<(), Fail> {
-    for file in [ONE, TILES, ZEROS, PARTS] {
+    for file in FILES {
         let bytes = bytes_of(rt.alloc(), file)?;
         let whole = extracted(&rt, rt.alloc(), &bytes, &[], None)?
             .written
             .ok_or("a file")?;
         for (call, least) in CALLS {
-            let count = count_of(&rt, &bytes, call, &whole)?;
+            let count = count_of(&rt, EXTRACT, &bytes, call, Some(&whole))?;
+            assert!(rt; count >= least);
+        }
+    }
+    Ok(())
+}
+
+#[test]
+fn calls_of_check_that_fail(rt: HostRuntime) -> Result<(), Fail> {
+    for file in FILES {
+        let bytes = bytes_of(rt.alloc(), file)?;
+        for (call, least) in OF_CHECK {
+            let count = count_of(&rt, &["check", "in=a"], &bytes, call, None)?;
             assert!(rt; count >= least);
         }
     }
@@ -130,14 +176,11 @@ fn calls_that_fail(rt: HostRuntime) -> Result<(), Fail> {
 // Where the room of the file that is written is used up, a beginning of the samples stands in it.
 #[test]
 fn no_room(rt: HostRuntime) -> Result<(), Fail> {
-    let bytes = bytes_of(rt.alloc(), ONE)?;
+    let bytes = bytes_of(rt.alloc(), &ONE)?;
     let got = extracted(&rt, rt.alloc(), &bytes, &["pad=5000"], None)?;
-    assert_eq!(rt; got.stop, Some(Stop::Write));
-    assert_eq!(rt; (got.read_faults, got.write_faults), (0, 1));
-    assert!(rt; got.printed.is_empty());
+    assert!(rt; got.stop == Some(Stop::Write) && got.has_faults(0, 1) && got.printed.is_empty());
     let written = got.written.ok_or("a file")?;
-    assert_eq!(rt; written.len(), ROOM);
-    assert!(rt; written.starts_with(b"\0<\0\0"));
+    assert!(rt; written.len() == ROOM && written.starts_with(b"\0<\0\0"));
     Ok(())
 }
 
@@ -151,23 +194,17 @@ const OF_HEADER: [(Call, Stop); 4] = [
 
 #[test]
 fn calls_of_header_that_fail(rt: HostRuntime) -> Result<(), Fail> {
-    let bytes = bytes_of(rt.alloc(), ONE)?;
-    for (call, stop) in OF_HEADER {
-        let got = outcome_of(
-            &rt,
-            rt.alloc(),
-            &["header", "in=a"],
-            &bytes,
-            Some((call, 0)),
-        )?;
-        assert_eq!(rt; got.stop, Some(stop));
-        assert!(rt; got.printed.is_empty());
+    let bytes = bytes_of(rt.alloc(), &ONE)?;
+    for (case, (call, stop)) in OF_HEADER.iter().enumerate() {
+        let failing = Some((*call, 0));
+        let got = outcome_of(&rt, rt.alloc(), &["header", "in=a"], &bytes, failing)?;
+        expect(&rt, case, got.stop == Some(*stop) && got.printed.is_empty());
     }
     Ok(())
 }
 
 /// Stops, with their statuses and lines.
-const LINES: [(Stop, u8, &str); 8] = [
+const LINES: [(Stop, u8, &str); 7] = [
     (Stop::NoMemory, 1, "exr: no memory\n"),
     (Stop::Words { position: 2 }, 2, "exr: word 2\n"),
     (
@@ -197,14 +234,14 @@ const LINES: [(Stop, u8, &str); 8] = [
         6,
         "exr: request fault 6\n",
     ),
-    (Stop::Form, 7, "exr: form\n"),
 ];
 
 #[test]
 fn lines(rt: HostRuntime) -> Result<(), Fail> {
-    for (stop, status, line) in LINES {
-        assert_eq!(rt; stop.status(), status);
-        assert_eq!(rt; stop_line(rt.alloc(), &stop)?.as_slice(), line.as_bytes());
+    for (case, (stop, status, line)) in LINES.iter().enumerate() {
+        let found = stop_line(rt.alloc(), stop)?;
+        let is_right = stop.status() == *status && found.as_slice() == line.as_bytes();
+        expect(&rt, case, is_right);
     }
     Ok(())
 }

@@ -2,8 +2,9 @@
 
 use super::files::{BARE, FAR, File, KINDS, ONE, PARTS, SAMPLED, THREE, TILES, UNLIKE, bytes_of};
 use super::methods::{CELLS, FLAT_CELLS, RUNS, ZEROS};
-use super::runs::{extracted, outcome_of};
+use super::runs::{Outcome, expect, extracted};
 use exr_tools::Stop;
+use std::alloc::Global;
 use std::process::Abort;
 use std::test::Fail;
 use std::thread::Threads;
@@ -11,17 +12,27 @@ use std::thread::Threads;
 /// A file, the words after the names of the two files, and what is written.
 type Row = (File, &'static [&'static str], &'static [u8]);
 
-/// Checks that the samples are written, that just their number is printed, and that no call failed.
-fn check(rt: &(impl Abort + AllocGlobal + Threads + Sync), rows: &[Row]) -> Result<(), Fail> {
+/// Whether a run wrote these bytes and printed how many they are, and no call failed.
+fn is_written(alloc: Global, got: &Outcome, wanted: &[u8]) -> Result<bool, Fail> {
+    let count = wanted.len();
+    let line = format!(in alloc; "extract bytes {count}\n")?;
+    Ok(
+        got.stop.is_none()
+            && got.written.as_deref() == Some(wanted)
+            && got.printed.as_slice() == line.as_bytes()
+            && got.has_faults(0, 0),
+    )
+}
+
+// The samples are written, and their number is printed.
+#[test]
+fn samples(rt: HostRuntime) -> Result<(), Fail> {
     let alloc = rt.alloc();
-    for (file, more, wanted) in rows {
-        let got = extracted(rt, alloc, &bytes_of(alloc, *file)?, more, None)?;
-        assert_eq!(rt; got.stop, None, "{more:?}");
-        assert_eq!(rt; got.written.as_deref(), Some(*wanted), "{more:?}");
-        let count = wanted.len();
-        let line = format!(in alloc; "extract bytes {count}\n")?;
-        assert_eq!(rt; got.printed.as_slice(), line.as_bytes());
-        assert_eq!(rt; (got.read_faults, got.write_faults), (0, 0));
+    for rows in [PLANES, REQUESTS, UNPACKED] {
+        for (case, (file, more, wanted)) in rows.iter().enumerate() {
+            let got = extracted(&rt, alloc, &bytes_of(alloc, file)?, more, None)?;
+            expect(&rt, case, is_written(alloc, &got, wanted)?);
+        }
     }
     Ok(())
 }
@@ -54,11 +65,6 @@ const PLANES: &[Row] = &[
         b"\0<",
     ),
 ];
-
-#[test]
-fn planes(rt: HostRuntime) -> Result<(), Fail> {
-    check(&rt, PLANES)
-}
 
 /// Windows, and the channels, layouts, padding and fills of buffers.
 const REQUESTS: &[Row] = &[
@@ -125,11 +131,6 @@ const REQUESTS: &[Row] = &[
     ),
 ];
 
-#[test]
-fn requests(rt: HostRuntime) -> Result<(), Fail> {
-    check(&rt, REQUESTS)
-}
-
 /// Samples that are unpacked, and windows that cut cells at both edges.
 const UNPACKED: &[Row] = &[
     (RUNS, &[], b"\0<\0<\0<\0<\0<\0<\0<\0<aYbYcYdYeYfYgYhY"),
@@ -166,35 +167,20 @@ const UNPACKED: &[Row] = &[
     (FLAT_CELLS, &["window=5,5,5,5"], b"\0?"),
 ];
 
-#[test]
-fn methods(rt: HostRuntime) -> Result<(), Fail> {
-    check(&rt, UNPACKED)
-}
-
 // As many channels as a request may name, and one more.
 #[test]
 fn a_thousand_channels(rt: HostRuntime) -> Result<(), Fail> {
-    let alloc = rt.alloc();
-    let file = bytes_of(alloc, ONE)?;
-    let mut list = String::from_str(alloc, "channels=Y")?;
+    let bytes = bytes_of(rt.alloc(), &ONE)?;
+    let mut list = String::from_str(rt.alloc(), "channels=Y")?;
     for number in 1..1024u32 {
-        list.push_str(format!(in alloc; ",c{number}")?.as_str())?;
+        list.push_str(format!(in rt.alloc(); ",c{number}")?.as_str())?;
     }
-    let words = [
-        "extract",
-        "in=a",
-        "out=b",
-        "layout=pixels",
-        "fill=770",
-        list.as_str(),
-    ];
-    let got = outcome_of(&rt, alloc, &words, &file, None)?;
+    let more = ["layout=pixels", "fill=770", list.as_str()];
+    let got = extracted(&rt, rt.alloc(), &bytes, &more, None)?;
     let written = got.written.ok_or("a file")?;
-    assert_eq!(rt; written.len(), 2048);
-    assert!(rt; written.starts_with(b"\0<\x02\x03"));
+    assert!(rt; written.len() == 2048 && written.starts_with(b"\0<\x02\x03"));
     list.push_str(",d")?;
-    let words = ["extract", "in=a", "out=b", list.as_str()];
-    let got = outcome_of(&rt, alloc, &words, &file, None)?;
-    assert_eq!(rt; got.stop, Some(Stop::Words { position: 3 }));
+    let got = extracted(&rt, rt.alloc(), &bytes, &[list.as_str()], None)?;
+    assert!(rt; got.stop == Some(Stop::Words { position: 3 }));
     Ok(())
 }
