@@ -54,6 +54,13 @@ def deep_chunk(width, table, samples, unpacked, method):
     return exr_file.file_of(deep_head(width, 1, method), [chunk])
 
 
+def too_many_pixels():
+    """A deep picture of 2^20 by 257 pixels, four bytes each more than 2^30, of which the first line is there and has no samples."""
+    front = deep_head(1 << 20, 257, 1)
+    table = b"\0\0" + b"\x7f\x80" * 32767 + b"\x7e\x80"  # 2^22 zeros as run lengths
+    return exr_file.file_of(front, [exr_file.deep_chunk(exr_file.line_fields(0), table, b"", 0)] + [b""] * 256)
+
+
 def cases():
     yield "1 by 2^20 pixels claimed, 300 bytes", head(1, 1 << 20).ljust(300, b"a")
     yield "2^20 by 512 pixels claimed (a buffer of 2^30 bytes), 300 bytes", head(1 << 20, 512).ljust(300, b"a")
@@ -65,6 +72,7 @@ def cases():
     for name, method, lines in (("RLE", 1, 1), ("PIZ", 4, 32), ("B44", 6, 32), ("B44A", 7, 32)):
         yield f"a chunk of ten bytes that claims 2^26 raw ones, {name}", ten_bytes(method, lines)
     yield "2^20 by 2^20 deep pixels claimed, 600 bytes", deep_head(1 << 20, 1 << 20).ljust(600, b"a")
+    yield "2^20 by 257 deep pixels, the first line of which is there, RLE", too_many_pixels()
     yield "2^20 deep pixels whose ten bytes of counts claim 2^22, RLE", deep_chunk(1 << 20, bytes(10), b"", 0, 1)
     yield "a deep pixel whose ten bytes of samples claim 2^26, RLE", deep_chunk(1, (1 << 25).to_bytes(4, "little"), bytes(10), 1 << 26, 1)
 
