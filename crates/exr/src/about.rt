@@ -14,6 +14,13 @@ exr reads OpenEXR files. Each command is a line of words KEY=VALUE.
       Prints what the headers of a.exr say: of each part its kind, data window,
       channels and attributes. Every OpenEXR 2 file of one level is read.
 
+  exr check in=a.exr
+      Reads and unpacks every chunk of a.exr. Prints for each part how many
+      chunks it has and how many of them are unread, that is, packed by a method
+      that is not supported so far; then ok. Stops at the first chunk with
+      any other fault.
+        workers=1             1 to 16; makes no difference so far
+
   exr extract in=a.exr out=b.raw
       Writes the samples of a part of a.exr into b.raw, every sample as the file
       has it. More words say which samples, and where each one goes:
@@ -33,8 +40,11 @@ exr reads OpenEXR files. Each command is a line of words KEY=VALUE.
         byte=0                the value of every other byte
         workers=1             how many chunks are read before their samples are
                               copied, 1 to 16; all work is on one thread so far
-      So far a part of scan lines or tiles is read, without compression or under
-      RLE, PIZ, B44 or B44A.
+      Of a deep part it writes how many samples each pixel of the window has,
+      four bytes each, row by row; then of each channel all samples, pixel by
+      pixel. Of the words above a deep part takes part, window and workers only.
+      So far chunks are read without compression or under RLE, and of a part
+      that is not deep also under PIZ, B44 or B44A.
 
   exr --help       this text
   exr --version    the version
@@ -47,7 +57,6 @@ The status is 0, or says why the program stopped:
   4  a file could not be opened or read
   5  a file or standard output could not be written
   6  what is asked of a file cannot be had; the line says why by a number
-  7  the part is of a kind that extract does not read so far
 ";
 
 const VERSION: &str = "exr 0.1.0\n";

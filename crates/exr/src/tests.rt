@@ -21,11 +21,13 @@ fn help_and_version(rt: HostRuntime) -> Result<(), Fail> {
         .first()
         .ok_or("a page")?;
     assert!(rt; help.ends_with("\n"));
+    assert!(rt; !help.contains("  7  "));
     for line in help.lines() {
         assert!(rt; line.len() <= 80, "{line}");
     }
     for word in [
         "exr header in=a.exr",
+        "exr check in=a.exr\n",
         "exr extract in=a.exr out=b.raw\n",
         "window=",
         "channels=",
@@ -39,7 +41,6 @@ fn help_and_version(rt: HostRuntime) -> Result<(), Fail> {
         "--faults",
         "  3  ",
         "  6  ",
-        "  7  ",
     ] {
         assert!(rt; help.contains(word), "{word}");
     }
