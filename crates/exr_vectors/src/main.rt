@@ -1,21 +1,24 @@
-//! Reads pictures that were made by hand or by another program, which lie in data/. Of each it extracts all samples and
-//! compares them, byte for byte, with those that it has to give. Then it damages each chunk in turn, a bit, a byte or the
-//! end of it, and unpacks that: the answer has to be raw data or the fault of the chunk's method.
+//! Reads pictures that were made by hand or by another program, which lie in data/. Each is checked, and what is extracted
+//! of it compared, byte for byte, with the samples that it has to give. Its chunks are damaged in turn, a bit, a byte or the
+//! end of each, and unpacked: the answer has to be raw content or the fault of the chunk's method. Some whole files are
+//! damaged so too: `check` and `extract` have to agree on them.
 #![tactic(auto)]
 
 mod damage;
 mod picture;
+mod whole;
 
 use damage::damaged;
 use exr_outside::{OutSink, RealFiles, RealWorld};
-use exr_tools::Stop;
-use picture::{bytes_under, extract};
+use exr_tools::{Stop, stop_line};
+use picture::{bytes_under, check_words, command, extract_words};
 use std::env::Env;
 use std::fs::File;
 use std::process::ExitCode;
 use std::rt::Files;
 use std::thread::Threads;
 use std::{env, str};
+use whole::damaged_whole;
 
 /// Where the samples are extracted to.
 const OUTPUT: &str = "out.raw";
@@ -27,7 +30,14 @@ fn main(rt: HostRuntime) -> ExitCode {
     }
 }
 
-/// Goes over the pictures that the words name, each followed by the file of its samples.
+/// The picture that the last words are about, and the window that is to be extracted, or an empty text for all of it.
+#[derive(Clone, Copy)]
+struct Subject<'a> {
+    picture: &'a str,
+    window: &'a str,
+}
+
+/// Goes over the words.
 fn program<R: AllocGlobal + Env + Files<File = File> + Print + Threads + Sync>(
     rt: &R,
 ) -> Result<(), Stop> {
@@ -37,25 +47,90 @@ fn program<R: AllocGlobal + Env + Files<File = File> + Print + Threads + Sync>(
             words.push(word)?;
         }
     }
-    for pair in words.chunks_exact(2) {
-        if let [picture, samples] = pair {
-            compare(rt, picture.as_str(), samples.as_str())?;
-            unpack_damaged(rt, picture.as_str())?;
-        }
+    let mut subject = Subject {
+        picture: "",
+        window: "",
+    };
+    for word in &words {
+        subject = follow(rt, subject, word.as_str())?;
     }
     Ok(())
 }
 
-/// Extracts a picture, and prints whether its samples are those of another file.
+/// Does what a word says. One that ends with `.exr` names a picture. After it come files of samples, each after the window
+/// that is to be extracted, if it is not the whole one; and `damaged`, if the whole file is to be damaged.
+fn follow<'a, R: AllocGlobal + Files<File = File> + Print + Threads + Sync>(
+    rt: &R,
+    subject: Subject<'a>,
+    word: &'a str,
+) -> Result<Subject<'a>, Stop> {
+    let Subject { picture, window } = subject;
+    if word.starts_with("window=") {
+        return Ok(Subject {
+            picture,
+            window: word,
+        });
+    }
+    if word.ends_with(".exr") {
+        if check(rt, word)? {
+            unpack_damaged(rt, word)?;
+        }
+        return Ok(Subject {
+            picture: word,
+            window: "",
+        });
+    }
+    if word == "damaged" {
+        read_damaged(rt, picture)?;
+    } else {
+        compare(rt, picture, window, word)?;
+    }
+    Ok(Subject {
+        picture,
+        window: "",
+    })
+}
+
+/// Prints a line.
+fn print<R: Print>(rt: &R, line: &str) -> Result<(), Stop> {
+    if println!(rt; "{line}").is_err() {
+        return Err(Stop::Write);
+    }
+    Ok(())
+}
+
+/// Prints what `check` says of a picture, and answers whether it has no fault.
+fn check<R: AllocGlobal + Files<File = File> + Print + Threads + Sync>(
+    rt: &R,
+    picture: &str,
+) -> Result<bool, Stop> {
+    let alloc = rt.alloc();
+    print(rt, picture)?;
+    let words = check_words(alloc, picture)?;
+    let mut files = RealFiles::new(rt, alloc);
+    let mut out = OutSink::new(rt);
+    match command::<_, RealWorld, _, _>(rt, alloc, &words, &mut files, &mut out) {
+        Ok(()) => Ok(true),
+        Err(stop) => {
+            let line = stop_line(alloc, &stop)?;
+            print(rt, str::from_utf8(&line).unwrap_or("").trim_end())?;
+            Ok(false)
+        }
+    }
+}
+
+/// Extracts a window of a picture, and prints whether its samples are those of another file.
 fn compare<R: AllocGlobal + Files<File = File> + Print + Threads + Sync>(
     rt: &R,
     picture: &str,
+    window: &str,
     samples: &str,
 ) -> Result<(), Stop> {
     let alloc = rt.alloc();
+    let words = extract_words(alloc, picture, OUTPUT, window)?;
     let mut files = RealFiles::new(rt, alloc);
     let mut out = OutSink::new(rt);
-    extract::<_, RealWorld, _, _>(rt, alloc, &mut files, &mut out, picture, OUTPUT)?;
+    command::<_, RealWorld, _, _>(rt, alloc, &words, &mut files, &mut out)?;
     let found = bytes_under::<RealWorld, _>(alloc, &mut files, OUTPUT)?;
     let wanted = bytes_under::<RealWorld, _>(alloc, &mut files, samples)?;
     let verdict = if found == wanted {
@@ -63,7 +138,7 @@ fn compare<R: AllocGlobal + Files<File = File> + Print + Threads + Sync>(
     } else {
         "OTHER THAN"
     };
-    if println!(rt; "{picture}: {verdict} {samples}").is_err() {
+    if println!(rt; "  {verdict} {samples}").is_err() {
         return Err(Stop::Write);
     }
     Ok(())
@@ -81,6 +156,21 @@ fn unpack_damaged<R: AllocGlobal + Files<File = File> + Print>(
         "  chunks {chunks} cut {cut} changed {changed} other answers {other}"
     ).is_err()
     {
+        return Err(Stop::Write);
+    }
+    Ok(())
+}
+
+/// Damages the whole file of a picture, and prints how often.
+fn read_damaged<R: AllocGlobal + Files<File = File> + Print + Threads + Sync>(
+    rt: &R,
+    picture: &str,
+) -> Result<(), Stop> {
+    let mut files = RealFiles::new(rt, rt.alloc());
+    let bytes = bytes_under::<RealWorld, _>(rt.alloc(), &mut files, picture)?;
+    let tally = damaged_whole(rt, rt.alloc(), &bytes)?;
+    let (prefixes, changes, other) = (tally.prefixes, tally.changes, tally.other);
+    if println!(rt; "  prefixes {prefixes} changes {changes} other answers {other}").is_err() {
         return Err(Stop::Write);
     }
     Ok(())

@@ -1,4 +1,4 @@
-//! A picture extracted by the top call, and the bytes of files.
+//! The commands of the top call on a picture, and the bytes of files.
 
 use exr_base::{Failed, NoMemory, Refusal};
 use exr_outside::{Files, PlainGate, Printer, World, read_all};
@@ -6,29 +6,43 @@ use exr_tools::{Stop, run};
 use std::alloc::Global;
 use std::thread::Threads;
 
-/// Extracts all samples of the first part of a picture into another file, and prints how many bytes they are.
-pub fn extract<R: Threads + Sync, W: World, F: Files<W>, O: Printer>(
-    rt: &R,
+/// The words of `extract` of a picture into another file; `more` is one word more, or empty.
+pub fn extract_words(
     alloc: Global,
-    files: &mut F,
-    out: &mut O,
     picture: &str,
     output: &str,
-) -> Result<(), Stop> {
-    let words = words(alloc, picture, output)?;
-    if words.len() > 3 {
-        return Err(Stop::Words { position: 3 });
-    }
-    run::<R, W, F, O, PlainGate>(rt, alloc, &words, files, out, &PlainGate)
-}
-
-/// The words of the command.
-fn words(alloc: Global, picture: &str, output: &str) -> Result<Vec<String>, NoMemory> {
+    more: &str,
+) -> Result<Vec<String>, NoMemory> {
     let mut words = Vec::new(alloc);
     words.push(String::from_str(alloc, "extract")?)?;
     words.push(format!(in alloc; "in={picture}")?)?;
     words.push(format!(in alloc; "out={output}")?)?;
+    if !more.is_empty() {
+        words.push(String::from_str(alloc, more)?)?;
+    }
     Ok(words)
+}
+
+/// The words of `check` of a picture.
+pub fn check_words(alloc: Global, picture: &str) -> Result<Vec<String>, NoMemory> {
+    let mut words = Vec::new(alloc);
+    words.push(String::from_str(alloc, "check")?)?;
+    words.push(format!(in alloc; "in={picture}")?)?;
+    Ok(words)
+}
+
+/// Runs the command of at most four words.
+pub fn command<R: Threads + Sync, W: World, F: Files<W>, O: Printer>(
+    rt: &R,
+    alloc: Global,
+    words: &[String],
+    files: &mut F,
+    out: &mut O,
+) -> Result<(), Stop> {
+    if words.len() > 4 {
+        return Err(Stop::Words { position: 4 });
+    }
+    run::<R, W, F, O, PlainGate>(rt, alloc, words, files, out, &PlainGate)
 }
 
 /// The bytes of the file of a name.
