@@ -7,10 +7,11 @@ use Rattle.std.proofs.lemmas.List.{append-nil, take_more, get_or-drop, length-dr
 use Rattle.std.proofs.lemmas.List.Elements.{All-nil, All-push}
 use Rattle.std.proofs.lemmas.List.Sums.{sum_by_more, sum_by_push}
 use Rattle.exr_base.specs.declared.shape.Box2i.{Box2i}
+use Rattle.exr_base.specs.Sampling.{span_of}
 use Rattle.exr_base.specs.Shape.{width_of}
 use Rattle.exr_image.specs.declared.chunk.DeepChunk.{DeepChunk}
 use Rattle.exr_image.specs.declared.piece.Piece.{Piece}
-use Rattle.exr_image.specs.Image.{along_row, along_rows}
+use Rattle.exr_image.specs.Image.{along_row, along_rows, AreBelow}
 use Rattle.exr_image.specs.Pieces.{IsPiece, IsPieceAt, GivesPieces, ArePieces}
 
 pub along_more : (f : ℤ → ℤ → List ℕ) (x y : ℤ) (m n : ℕ) → along_row f x y (m + n) ≡ along_row f x y m ++ along_row f (x +ℤ pos m) y n
@@ -98,9 +99,24 @@ whole_rows window chunks rows pieces of_piece of_pixel are gives = are.whole of_
 abbrev pub no_piece : Piece
 no_piece = record { chunk = 0; first = 0; pixels = 0; above = 0; row = 0; left = 0; samples = 0 }
 
--- what was made of the pieces so far, and of the next one
-pub next_piece : (of_piece : Piece → List ℕ) (pieces : List Piece) (n : ℕ) (d : Piece) (so_far : List ℕ) → n < length pieces → so_far ≡ flat_map of_piece (take n pieces) → so_far ++ of_piece (get_or pieces n d) ≡ flat_map of_piece (take (n + 1) pieces)
-next_piece of_piece pieces n d so_far there is =
+-- what was made of the pieces so far, behind what there was, and of the next one
+pub next_piece : (of_piece : Piece → List ℕ) (pieces : List Piece) (n : ℕ) (d : Piece) (old so_far : List ℕ) → n < length pieces → so_far ≡ old ++ flat_map of_piece (take n pieces)
+    → so_far ++ of_piece (get_or pieces n d) ≡ old ++ flat_map of_piece (take (n + 1) pieces)
+next_piece of_piece pieces n d old so_far there is =
     ap (λ (l : List ℕ). l ++ of_piece (get_or pieces n d)) is
-    ∙ flat_map_more of_piece [] (take n pieces) (get_or pieces n d)
-    ∙ ap (flat_map of_piece) (sym (take_more pieces n d there))
+    ∙ append_assoc old (flat_map of_piece (take n pieces)) (of_piece (get_or pieces n d))
+    ∙ ap (λ (l : List ℕ). old ++ l) (flat_map_more of_piece [] (take n pieces) (get_or pieces n d) ∙ ap (flat_map of_piece) (sym (take_more pieces n d there)))
+
+-- ---- rows below rows
+
+pub rows_below : (f : ℤ → ℤ → List ℕ) (window rows : Box2i) (n m : ℕ) → AreBelow window n rows → along_rows f window (n + m) ≡ along_rows f window n ++ along_rows f rows m
+unfolding along_rows
+rows_below f window rows n zero below = (let e : n + 0 ≡ n = omega arith in ap (along_rows f window) e) ∙ sym (append-nil (along_rows f window n))
+rows_below f window rows n (suc m) below =
+    let e : n + suc m ≡ suc (n + m) = omega arith in
+    let down : window.y0 +ℤ pos (n + m) ≡ rows.y0 +ℤ pos m = (let top = below.top in omega (arith, ints, top)) in
+    let wide : width_of window ≡ width_of rows = sym (ap₂ (λ (a b : ℤ). span_of a b) below.left below.right) in
+    ap (along_rows f window) e
+    ∙ ap₂ (λ (a b : List ℕ). a ++ b) (rows_below f window rows n m below)
+    (ap₂ (λ (x y : ℤ). along_row f x y (width_of window)) (sym below.left) down ∙ ap (along_row f rows.x0 (rows.y0 +ℤ pos m)) wide)
+    ∙ append_assoc (along_rows f window n) (along_rows f rows m) (along_row f rows.x0 (rows.y0 +ℤ pos m) (width_of rows))

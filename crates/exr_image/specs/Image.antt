@@ -29,19 +29,29 @@ along_rows f window zero = []
 along_rows f window (suc n) =
     along_rows f window n ++ along_row f window.x0 (window.y0 +ℤ pos n) (width_of window)
 
--- the counts of a window, and its samples of channel number c
-abbrev pub counts_over : DeepPixels → Box2i → List ℕ
-counts_over pixels window = along_rows (λ x y. pixels.count x y ∷ []) window (height_of window)
+-- the counts of the first n rows of a window, and their samples of channel number c
+abbrev pub counts_over : DeepPixels → Box2i → ℕ → List ℕ
+counts_over pixels window n = along_rows (λ x y. pixels.count x y ∷ []) window n
 
-abbrev pub samples_over : DeepPixels → Box2i → ℕ → List ℕ
-samples_over pixels window c = along_rows (pixels.samples c) window (height_of window)
+abbrev pub samples_over : DeepPixels → Box2i → ℕ → ℕ → List ℕ
+samples_over pixels window n c = along_rows (pixels.samples c) window n
 
--- an image is that of a window of pixels that have these channels
-pub record IsImage (pixels : DeepPixels) (channels : List Channel) (window : Box2i) (image : DeepImage) : Type 0 where
+-- an image of a window has its first n rows, of pixels that have these channels
+pub record HasRows (pixels : DeepPixels) (channels : List Channel) (window : Box2i) (n : ℕ) (image : DeepImage) : Type 0 where
   pub over : image.window ≡ window
-  pub counts : image.counts.items ≡ counts_over pixels window
+  pub counts : image.counts.items ≡ counts_over pixels window n
   pub samples : map (λ plane. plane.items) image.channels.items
-      ≡ map (samples_over pixels window) (range_with_len 0 (length channels))
+      ≡ map (samples_over pixels window n) (range_with_len 0 (length channels))
+
+-- it has all rows
+abbrev pub IsImage : DeepPixels → List Channel → Box2i → DeepImage → Type 0
+IsImage pixels channels window image = HasRows pixels channels window (height_of window) image
+
+-- rows of a window, from row n on
+pub record AreBelow (window : Box2i) (n : ℕ) (rows : Box2i) : Type 0 where
+  pub left : rows.x0 ≡ window.x0
+  pub right : rows.x1 ≡ window.x1
+  pub top : rows.y0 ≡ window.y0 +ℤ pos n
 
 -- ---- the chunks that an image is made of
 

@@ -2,6 +2,7 @@
 use Rattle.std.specs.Prelude.{◌≡◌, ◌<◌, ◌≤◌, ◌+◌, ◌*◌, ◌^◌, ◌-ℤ◌, ◌+ℤ◌, ◌≤ℤ◌, ℕ, ℤ, pos, nat_abs, Bool, ◌&&◌, List, [], ◌++◌, length, take, drop, sum, map, slice_index_or}
 use Rattle.std.specs.List.{All, flat_map, sum_by}
 use Rattle.exr_base.specs.declared.shape.Box2i.{Box2i}
+use Rattle.exr_base.specs.declared.channel.Channel.{Channel}
 use Rattle.exr_base.specs.Boxes.{IsWithin, is_side_inside}
 use Rattle.exr_base.specs.Shape.{width_of, IsRegion}
 use Rattle.exr_deep.specs.Body.{DeepContent, content_of}
@@ -11,7 +12,7 @@ use Rattle.exr_image.specs.declared.pixel.Pixel.{Pixel}
 use Rattle.exr_image.specs.declared.piece.Piece.{Piece}
 use Rattle.exr_image.specs.declared.sizes.Sizes.{Sizes}
 use Rattle.exr_image.specs.declared.tally.Tally.{Tally}
-use Rattle.exr_image.specs.Pixel.{row_start, pixel_number, samples_between}
+use Rattle.exr_image.specs.Pixel.{row_start, pixel_number, samples_between, sizes_of}
 use Rattle.exr_image.specs.Image.{along_row, along_rows}
 
 -- ---- chunks
@@ -115,3 +116,9 @@ pub record HasSamples (chunks : List DeepChunk) (sizes : Sizes) (piece : Piece) 
   pub there : piece.chunk < length chunks
   pub room : place_of sizes piece + piece.samples * sizes.own ≤ length (chunk_at chunks piece.chunk).content.samples
   pub small : length (chunk_at chunks piece.chunk).content.samples ≤ 2 ^ 26
+
+-- the first n channels have the samples of the pieces, behind those that they had; the others have what they had
+pub record ArePushed (channels : List Channel) (chunks : List DeepChunk) (pieces : List Piece) (old new : List (List ℕ)) (n : ℕ) : Type 0 where
+  pub many : length new ≡ length old
+  pub added : (c : ℕ) → c < n → slice_index_or new c [] ≡ slice_index_or old c [] ++ flat_map (samples_of chunks (sizes_of channels c)) pieces
+  pub left : (c : ℕ) → n ≤ c → slice_index_or new c [] ≡ slice_index_or old c []

@@ -13,4 +13,4 @@ mod sizes;
 mod tally;
 
 pub use chunk::DeepChunk;
-pub use image::{DeepImage, image_of};
+pub use image::DeepImage;

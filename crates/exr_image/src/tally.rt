@@ -17,8 +17,8 @@ pub(crate) struct Tally {
 }
 
 /// The sum of counts.
-pub(crate) fn sum_of(counts: &[u32]) -> u64
-    requires { length counts.now ≤ 2 ^ 28 }
+fn sum_of(counts: &[u32]) -> u64
+    requires { length counts.now ≤ 2 ^ 24 }
     ensures exact { result ≡ sum counts.now }
     ensures small { result ≤ length counts.now * 2 ^ 32 }
 {

@@ -10,7 +10,7 @@ ghost use Rattle.exr_image.specs.declared.chunk.DeepChunk.{DeepChunk};
 
 use exr_base::{Box2i, Channel, Kind, Name, Shape};
 use exr_deep::{DeepBlock, fits};
-use exr_image::{DeepChunk, DeepImage, image_of};
+use exr_image::{DeepChunk, DeepImage};
 use std::alloc::Global;
 use std::test::Fail;
 
@@ -311,12 +311,41 @@ fn is_window(window: Box2i) -> bool
     !window.is_empty() && window.is_inside(ALL)
 }
 
+/// Adds to an image the lines of the picture that its window has, one by one.
+fn push_lines(
+    alloc: Global,
+    image: &mut DeepImage,
+    channels: &[Channel],
+    chunks: &[DeepChunk],
+) -> Result<(), Fail>
+    requires few { length channels.now ≤ 1024 }
+    requires many { vec_len image.old.channels ≡ length channels.now }
+    requires regions { All (λ chunk. IsRegion chunk.region) chunks.now }
+    requires fits { All (λ chunk. fits channels.now chunk.region (content_of chunk.content) ≡ true) chunks.now }
+    requires covering { AreCovering ALL chunks.now }
+{
+    for y in -1..3 {
+        let line = Box2i {
+            x0: image.window.x0,
+            y0: y,
+            x1: image.window.x1,
+            y1: y,
+        };
+        if y >= image.window.y0 && y <= image.window.y1 && is_window(line) {
+            image.push_rows(alloc, channels, line, chunks)?;
+        }
+    }
+    Ok(())
+}
+
+/// The image of a window of the picture, put together at once or line by line.
 fn image(
     alloc: Global,
     kinds: &[Kind],
     cut: Corner,
     contents: [Content; 4],
     window: Box2i,
+    by_lines: bool,
 ) -> Result<DeepImage, Fail>
     requires left { neg_ℤ (pos 2) ≤ℤ cut.x }
     requires right { cut.x ≤ℤ pos 2 }
@@ -328,7 +357,13 @@ fn image(
     if channels.len() > 1024 || !is_window(window) || !all_fit(&channels, &chunks) {
         return Err("no content of the picture".into());
     }
-    Ok(image_of(alloc, &channels, window, &chunks)?)
+    let mut image = DeepImage::new(alloc, &channels, window)?;
+    if by_lines {
+        push_lines(alloc, &mut image, &channels, &chunks)?;
+    } else {
+        image.push_rows(alloc, &channels, window, &chunks)?;
+    }
+    Ok(image)
 }
 
 #[test]
@@ -336,9 +371,14 @@ fn windows_of_tiles_and_of_scan_lines(rt: HostRuntime) -> Result<(), Fail> {
     let kinds = [Kind::Half, Kind::Float];
     let tiles = Corner { x: 0, y: 1 };
     let lines = Corner { x: 2, y: 0 };
-    for (cut, contents) in [(tiles, TILES), (lines, LINES)] {
+    for (cut, contents, by_lines) in [
+        (tiles, TILES, false),
+        (tiles, TILES, true),
+        (lines, LINES, false),
+        (lines, LINES, true),
+    ] {
         for case in CASES {
-            let image = image(rt.alloc(), &kinds, cut, contents, case.window)?;
+            let image = image(rt.alloc(), &kinds, cut, contents, case.window, by_lines)?;
             assert_eq!(rt; image.window, case.window);
             assert_eq!(rt; image.counts.as_slice(), case.counts);
             assert_eq!(rt; image.channels.len(), 2);
@@ -355,8 +395,29 @@ fn no_channels(rt: HostRuntime) -> Result<(), Fail> {
     for k in 0..4usize {
         contents[k].samples = &[];
     }
-    let image = image(rt.alloc(), &[], Corner { x: 0, y: 1 }, contents, ALL)?;
+    let cut = Corner { x: 0, y: 1 };
+    let image = image(rt.alloc(), &[], cut, contents, ALL, false)?;
     assert_eq!(rt; image.counts.as_slice(), CASES[0].counts);
     assert_eq!(rt; image.channels.len(), 0);
+    Ok(())
+}
+
+#[test]
+fn pieces_of_a_file(rt: HostRuntime) -> Result<(), Fail> {
+    let kinds = [Kind::Half, Kind::Float];
+    let window = Box2i {
+        x0: -1,
+        y0: 0,
+        x1: 0,
+        y1: 1,
+    };
+    let cut = Corner { x: 0, y: 1 };
+    let image = image(rt.alloc(), &kinds, cut, TILES, window, false)?;
+    let pieces = image.into_pieces(rt.alloc())?;
+    assert_eq!(rt; pieces.len(), 3);
+    let counts = [3u8, 0, 0, 0, 1, 0, 0, 0, 1, 0, 0, 0, 0, 0, 0, 0];
+    assert_eq!(rt; pieces[0].as_slice(), counts.as_slice());
+    assert_eq!(rt; pieces[1].as_slice(), CASES[1].halves);
+    assert_eq!(rt; pieces[2].as_slice(), CASES[1].floats);
     Ok(())
 }

@@ -2,7 +2,7 @@ use Rattle.std.proofs.Common.{ℕ, List, ◌++◌, length, get_or, take, drop, a
 use Rattle.exr_image.specs.Pieces.{ChunkView, counts_of}
 use Rattle.exr_image.proofs.Places.{at_is}
 use Rattle.exr_image.proofs.Along.{no_piece, next_piece}
-use Rattle.exr_image.proofs.planes.counts_of.Goals as goal
+use Rattle.exr_image.proofs.planes.push_counts.Goals as goal
 
 pub counts_in-requires-clause-room : goal.counts_in-requires-clause-room
 counts_in-requires-clause-room c =
@@ -28,4 +28,4 @@ loop-piece-preserved c =
     let from = c.as_slice.ensures.value ∙ ap (λ (chunk : ChunkView). chunk.content.counts) is in
     c.in_ok-extend_from_slice.ensures.items
     ∙ ap (λ (l : List ℕ). c.loop-piece.counts.items ++ l) (c.counts_in.ensures ∙ ap (λ (l : List ℕ). take piece.pixels (drop piece.first l)) from)
-    ∙ next_piece (counts_of c.args.chunks.now) pieces n no_piece c.loop-piece.counts.items c.loop-piece-test.true c.loop-piece.invariant
+    ∙ next_piece (counts_of c.args.chunks.now) pieces n no_piece c.args.counts.now.items c.loop-piece.counts.items c.loop-piece-test.true c.loop-piece.invariant
