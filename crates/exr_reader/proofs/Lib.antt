@@ -1,3 +1,4 @@
+pub mod Banded
 pub mod Contents
 pub mod Deepening
 pub mod Filling

@@ -1,5 +1,5 @@
 -- The chunks that a window meets: their indexes, and the chunk of each pixel among them.
-use Rattle.std.proofs.Common.{◌≡◌, ℕ, zero, suc, ◌<◌, ◌≤◌, Bool, true, false, cond, List, [], ◌∷◌, ◌++◌, length, map, slice_index, Result, Ok, Err, IfOk, OnOk, ◌^◌, inl, inr, refl, sym, ap, ◌∙◌, subst, arith, ℤ, ◌≤ℤ◌}
+use Rattle.std.proofs.Common.{◌≡◌, ℕ, zero, suc, ◌<◌, Bool, true, false, cond, List, [], ◌∷◌, ◌++◌, length, map, slice_index, Result, Ok, Err, IfOk, OnOk, inl, inr, refl, sym, ap, ◌∙◌, subst, arith, ℤ, ◌≤ℤ◌}
 use Rattle.std.specs.Prelude.{int_le}
 use Rattle.std.specs.Int.{int_min, int_max}
 use Rattle.std.proofs.lemmas.Bool.{cases_lt}
@@ -17,12 +17,12 @@ use Rattle.exr_stream.proofs.Bare.{bare_at}
 use Rattle.exr_reader.specs.Window.{AreChunks}
 
 -- the list with one index more, or without it
-more : (h : Header) (w : Box2i) (n : ℕ) (b : Bool) → boxes_meet (region_of h n) w ≡ b → meeting_among h w (suc n) ≡ meeting_among h w n ++ cond b (n ∷ []) []
+pub list_more : (h : Header) (w : Box2i) (n : ℕ) (b : Bool) → boxes_meet (region_of h n) w ≡ b → meeting_among h w (suc n) ≡ meeting_among h w n ++ cond b (n ∷ []) []
 unfolding meeting_among
-more h w n b is = ap (λ (c : Bool). meeting_among h w n ++ cond c (n ∷ []) []) is
+list_more h w n b is = ap (λ (c : Bool). meeting_among h w n ++ cond c (n ∷ []) []) is
 
-kept : (h : Header) (w : Box2i) (n : ℕ) → boxes_meet (region_of h n) w ≡ false → meeting_among h w (suc n) ≡ meeting_among h w n
-kept h w n is = more h w n false is ∙ append-nil (meeting_among h w n)
+pub list_kept : (h : Header) (w : Box2i) (n : ℕ) → boxes_meet (region_of h n) w ≡ false → meeting_among h w (suc n) ≡ meeting_among h w n
+list_kept h w n is = list_more h w n false is ∙ append-nil (meeting_among h w n)
 
 -- each index is one of those that were looked at
 pub listed_below : (h : Header) (w : Box2i) (n r : ℕ) → r < length (meeting_among h w n) → slice_index (meeting_among h w n) r < n
@@ -33,7 +33,7 @@ listed_below h w (suc n) r lt =
     let P : Bool → Type 0 = λ b. boxes_meet (region_of h n) w ≡ b → slice_index (meeting_among h w (suc n)) r < suc n in
     (elim (boxes_meet (region_of h n) w) as P [
       | true ↦ λ is.
-          let list = more h w n true is in
+          let list = list_more h w n true is in
           let size = ap length list ∙ length_push l n in
           elim (cases_lt r (length l)) [
             | inl before ↦
@@ -45,7 +45,7 @@ listed_below h w (suc n) r lt =
                 omega (arith, e)
           ]
       | false ↦ λ is.
-          let list = kept h w n is in
+          let list = list_kept h w n is in
           let low = listed_below h w n r (subst (λ xs. r < length xs) list lt) in
           let e = ap (λ xs. slice_index xs r) list in
           omega (arith, e, low)
@@ -67,17 +67,17 @@ listed h w (suc n) i lt meets =
           let there = listed h w n i before meets in
           let P : Bool → Type 0 = λ b. boxes_meet (region_of h n) w ≡ b → IsListed (meeting_among h w (suc n)) i in
           (elim (boxes_meet (region_of h n) w) as P [
-            | true ↦ λ is. subst (λ xs. IsListed xs i) (sym (more h w n true is)) (record {
+            | true ↦ λ is. subst (λ xs. IsListed xs i) (sym (list_more h w n true is)) (record {
               rank = there.rank;
               within = let size = length_push l n in let low = there.within in omega (arith, size, low);
               is = get_or_append_left l (n ∷ []) 0 there.rank there.within ∙ there.is;
             })
-            | false ↦ λ is. subst (λ xs. IsListed xs i) (sym (kept h w n is)) there
+            | false ↦ λ is. subst (λ xs. IsListed xs i) (sym (list_kept h w n is)) there
           ]) refl
       | inr le ↦
           let e : n ≡ i = omega (arith, le, lt) in
           let here : boxes_meet (region_of h n) w ≡ true = ap (λ k. boxes_meet (region_of h k) w) e ∙ meets in
-          subst (λ xs. IsListed xs i) (sym (more h w n true here)) (record {
+          subst (λ xs. IsListed xs i) (sym (list_more h w n true here)) (record {
             rank = length l;
             within = let size = length_push l n in omega (arith, size);
             is = get_or_push l n 0 (length l) refl ∙ e;

@@ -1,5 +1,5 @@
 -- A stream of the same file.
-use Rattle.std.proofs.Common.{◌≡◌, ℕ, IsTrue, refl, ap, ◌∙◌}
+use Rattle.std.proofs.Common.{◌≡◌, IsTrue, refl, ◌∙◌}
 use Rattle.exr_outside.specs.Source.{SourceMeaning}
 use Rattle.exr_stream.specs.Stream.{StreamView, file_of, IsSameStream}
 

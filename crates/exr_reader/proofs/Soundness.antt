@@ -1,5 +1,5 @@
 -- Chunks and parts that are tested one after the other.
-use Rattle.std.proofs.Common.{◌≡◌, ◌+◌, ◌<◌, ℕ, Bool, true, cond, inl, inr, refl, ap, ◌∙◌, subst, arith, add-one}
+use Rattle.std.proofs.Common.{◌≡◌, ◌+◌, ℕ, Bool, true, cond, inl, inr, refl, ap, ◌∙◌, subst, arith, add-one}
 use Rattle.std.proofs.lemmas.Bool.{cases_lt}
 use Rattle.exr_block.specs.declared.fault.ChunkFault.{ChunkFault}
 use Rattle.exr_chunks.specs.Heads.{chunk_count_of}

@@ -1,6 +1,7 @@
 -- The samples of a deep part, one pixel at a time, and what reading a window of it gives. File Layout, "Deep Data Blocks";
 -- how much a window may have is this project's (own).
-use Rattle.std.specs.Prelude.{◌≡◌, ◌<◌, ◌≤◌, ◌+◌, ◌*◌, ◌^◌, ℕ, ℤ, List, [], length, take, slice_index, true, Result, Ok, Err}
+use Rattle.std.specs.Prelude.{◌≡◌, ◌≢◌, ◌<◌, ◌≤◌, ◌<ℤ◌, ◌≤ℤ◌, ◌+◌, ◌*◌, ◌^◌, ℕ, ℤ, List, [], length, take, slice_index, true, Result, Ok, Err}
+use Rattle.std.specs.Int.{int_min, int_max}
 use Rattle.std.specs.List.{HoldsAt, sum_by}
 use Rattle.exr_base.specs.declared.shape.Box2i.{Box2i}
 use Rattle.exr_base.specs.Boxes.{IsInside}
@@ -14,7 +15,9 @@ use Rattle.exr_image.specs.declared.image.DeepImage.{DeepImage}
 use Rattle.exr_image.specs.Pixel.{count_in, pixel_samples_in}
 use Rattle.exr_image.specs.Image.{DeepPixels, IsImage}
 use Rattle.exr_chunks.specs.Pixels.{chunk_with}
+use Rattle.exr_chunks.specs.Heads.{Header, IsPicture}
 use Rattle.exr_chunks.specs.Region.{region_of}
+use Rattle.exr_chunks.specs.Window.{chunks_of_window}
 use Rattle.exr_stream.specs.Chunk.{Opened, header_in}
 use Rattle.exr_reader.specs.declared.deep.DeepStop.{DeepStop}
 use Rattle.exr_reader.specs.declared.deep.DeepStop.TheVariants as stop
@@ -84,10 +87,41 @@ pub record IsDeepChunk (told : Type 0) (file : Opened) (part index : ℕ) (chunk
   pub fits : fits (header_in file part).channels chunk.region (content_of chunk.content) ≡ true
   pub content : told → raw_of file part index ≡ Ok (deep_content (content_of chunk.content))
 
--- those of a list of indexes, as far as there are chunks
-abbrev pub AreDeepChunks : Type 0 → Opened → ℕ → List ℕ → List DeepChunk → Type 0
-AreDeepChunks told file part indexes chunks =
-    (k : ℕ) → k < length chunks → HoldsAt (IsDeepChunk told file part (slice_index indexes k)) chunks k
+-- those of a list of indexes from a rank on, as far as there are chunks
+abbrev pub AreDeepChunks : Type 0 → Opened → ℕ → List ℕ → ℕ → List DeepChunk → Type 0
+AreDeepChunks told file part indexes from chunks =
+    (k : ℕ) → k < length chunks → HoldsAt (IsDeepChunk told file part (slice_index indexes (from + k))) chunks k
+
+-- the chunks of a window within the data window
+pub record IsMet (h : Header) (window : Box2i) (chunks : List ℕ) : Type 0 where
+  pub picture : IsPicture h
+  pub inside : IsInside h.window window
+  pub are : chunks ≡ chunks_of_window h window
+
+-- the first n chunks of a list were read: they have content, with none of them there are too many bytes, and so many there are
+pub record AreRead (file : Opened) (part : ℕ) (window : Box2i) (chunks : List ℕ) (n size : ℕ) : Type 0 where
+  pub content : HaveDataOf file part chunks n
+  pub small : AreSmall file part window chunks n
+  pub is : size ≡ size_so_far file part window chunks n
+
+-- the chunks from one rank to another stand beside each other, and the next one does not stand beside them
+pub record AreRow (h : Header) (chunks : List ℕ) (from to : ℕ) : Type 0 where
+  pub some : from < to
+  pub within : to ≤ length chunks
+  pub beside : (r : ℕ) → from ≤ r → r < to → (region_of h (slice_index chunks r)).y0 ≡ (region_of h (slice_index chunks from)).y0
+  pub last : to < length chunks → (region_of h (slice_index chunks to)).y0 ≢ (region_of h (slice_index chunks from)).y0
+
+-- a line cuts the chunks at a rank: in the window, those before it end above the line, and the others begin at it or below
+pub record AreCutAt (h : Header) (window : Box2i) (chunks : List ℕ) (rank : ℕ) (line : ℤ) : Type 0 where
+  pub above : (r : ℕ) → r < rank → int_min (region_of h (slice_index chunks r)).y1 window.y1 <ℤ line
+  pub below : (r : ℕ) → rank ≤ r → r < length chunks → line ≤ℤ int_max (region_of h (slice_index chunks r)).y0 window.y0
+
+-- the lines of a window that a region has
+pub record IsBand (region window band : Box2i) : Type 0 where
+  pub left : band.x0 ≡ window.x0
+  pub right : band.x1 ≡ window.x1
+  pub up : band.y0 ≡ int_max region.y0 window.y0
+  pub down : band.y1 ≡ int_min region.y1 window.y1
 
 -- a cause of reading as a stop
 abbrev pub stop_of_cause : ReadCause → DeepStop

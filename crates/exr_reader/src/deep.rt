@@ -18,23 +18,19 @@ ghost use Rattle.exr_reader.specs.Reading.{HasCause};
 ghost use Rattle.exr_reader.specs.Window.{AreChunks, HaveDataOf};
 ghost use Rattle.exr_reader.specs.Deep.{IsDeepImage, AreSmall, IsDeepChunk, AreDeepChunks, IsDeepFault, IsTooLarge, HasDeepCause, stop_of_cause};
 
+use crate::bands::{DeepWindow, read_bands};
 use crate::cause::ReadCause;
-use crate::fetched::read_block;
 use crate::jobs::Jobs;
 use crate::window::window_chunks;
 use crate::work::Work;
 use exr_base::{Box2i, NoMemory};
-use exr_block::{Block, ChunkFault};
-use exr_deep::{height_of, width_of};
-use exr_image::{DeepChunk, DeepImage, image_of};
+use exr_block::ChunkFault;
+use exr_image::DeepImage;
 use exr_outside::{Gate, Source, World};
 use exr_stream::Stream;
 use std::alloc::{AllocError, AllocFailed, Global};
 use std::thread::Threads;
 use thiserror::Error;
-
-/// The most bytes of the counts and the samples of a window (own).
-const MOST_BYTES: u64 = 1 << 30;
 
 /// Why a window of a deep part could not be read (own).
 #[derive(Clone, Copy, Debug, PartialEq, Eq, Error)]
@@ -79,7 +75,7 @@ impl<X: Drop> From<AllocFailed<X>> for DeepStop {
 }
 
 /// The stop of a cause that reading a chunk has.
-fn stop_of(cause: ReadCause) -> DeepStop
+pub(crate) fn stop_of(cause: ReadCause) -> DeepStop
     ensures { result ≡ stop_of_cause cause }
 {
     match cause {
@@ -87,90 +83,6 @@ fn stop_of(cause: ReadCause) -> DeepStop
         ReadCause::Read => DeepStop::Read,
         ReadCause::Chunk { index, fault } => DeepStop::Chunk { index, fault },
     }
-}
-
-/// A chunk of a deep part.
-fn read_deep_chunk<W: World, S: Source>(
-    alloc: Global,
-    stream: &mut Stream<W, S>,
-    part: u32,
-    index: u32,
-) -> Result<DeepChunk, ReadCause>
-    requires part { part < length stream.old.head.parts }
-    requires index { index < chunk_count_of (header_at stream.old.head.parts part) }
-    requires deep { is_deep (header_at stream.old.head.parts part).kind ≡ true }
-    ensures chunk { IfOk result (IsDeepChunk (IsTrue S.means.tells) (file_of S.means stream.old) part index) }
-    ensures samples { IfOk result (λ chunk. length chunk.content.samples.items ≤ 2 ^ 26) }
-    ensures same { IsSameStream S.means stream.old stream.new }
-    ensures later { S.means.faults stream.old.source ≤ S.means.faults stream.new.source }
-    ensures cause { IfErr result (λ cause. HasCause cause (λ i fault. (i ≡ index) × (IsTrue S.means.tells
-        → raw_of (file_of S.means stream.old) part index ≡ Err fault))
-        (Rose (S.means.faults stream.old.source) (S.means.faults stream.new.source))) }
-{
-    match read_block(alloc, stream, part, index, Vec::new(alloc))? {
-        Block::Deep(content) => Ok(DeepChunk {
-            region: stream.region(part, index),
-            content,
-        }),
-        Block::Flat(_) => unreachable!(),
-    }
-}
-
-/// The bytes of the counts of a window.
-fn counts_size(window: Box2i) -> u64
-    requires { IsRegion window }
-    ensures { result ≡ 4 * pixels_of window }
-{
-    4 * (width_of(window) as u64 * height_of(window) as u64)
-}
-
-/// The chunks of a list. To read one is a job.
-fn read_deep_chunks<W: World, S: Source, G: Gate>(
-    alloc: Global,
-    stream: &mut Stream<W, S>,
-    part: u32,
-    window: Box2i,
-    indexes: &[u32],
-    jobs: &mut Jobs<'_, G>,
-) -> Result<Vec<DeepChunk>, DeepStop>
-    requires part { part < length stream.old.head.parts }
-    requires deep { is_deep (header_at stream.old.head.parts part).kind ≡ true }
-    requires chunks { AreChunks (header_at stream.old.head.parts part) indexes.now }
-    requires window { IsRegion window }
-    requires rest { jobs.old.begun ≡ None }
-    ensures chunks { IfOk result (λ chunks. AreDeepChunks (IsTrue S.means.tells) (file_of S.means stream.old) part indexes.now chunks.items) }
-    ensures many { IfOk result (λ chunks. length chunks.items ≡ length indexes.now) }
-    ensures few { OnOk result (1 ≤ length indexes.now → 4 * pixels_of window ≤ 2 ^ 30) }
-    ensures content { IsTrue S.means.tells → OnOk result (HaveDataOf (file_of S.means stream.old) part indexes.now (length indexes.now)) }
-    ensures small { IsTrue S.means.tells → OnOk result
-        (AreSmall (file_of S.means stream.old) part window indexes.now (length indexes.now)) }
-    ensures same { IsSameStream S.means stream.old stream.new }
-    ensures later { S.means.faults stream.old.source ≤ S.means.faults stream.new.source }
-    ensures cause { IfErr result (λ stop. HasDeepCause stop
-        (λ i fault. IsTrue S.means.tells → IsDeepFault (file_of S.means stream.old) part window indexes.now i fault)
-        (λ i. IsTrue S.means.tells → IsTooLarge (file_of S.means stream.old) part window indexes.now i)
-        (Rose (S.means.faults stream.old.source) (S.means.faults stream.new.source))) }
-    ensures done { jobs.new.begun ≡ None }
-{
-    let mut size = counts_size(window);
-    let mut chunks = Vec::new(alloc);
-    for rank in 0..indexes.len() {
-        let index = indexes[rank];
-        jobs.begin(index);
-        let read = read_deep_chunk(alloc, stream, part, index);
-        jobs.end(index);
-        match read {
-            Ok(chunk) => {
-                size += chunk.content.samples.len() as u64;
-                if size > MOST_BYTES {
-                    return Err(DeepStop::TooLarge { index });
-                }
-                chunks.push(chunk)?;
-            }
-            Err(cause) => return Err(stop_of(cause)),
-        }
-    }
-    Ok(chunks)
 }
 
 /// Reads a window of a deep part: how many samples each pixel has, and the samples, pixel by pixel.
@@ -209,11 +121,14 @@ pub fn read_deep<R: Threads + Sync, W: World, S: Source, G: Gate>(
         (chunks_of_window (header_at stream.old.head.parts part) window) i)
         (Rose (S.means.faults stream.old.source) (S.means.faults stream.new.source))) }
 {
-    let indexes = window_chunks(stream, alloc, part, window)?;
+    let chunks = window_chunks(stream, alloc, part, window)?;
+    let what = DeepWindow {
+        part,
+        window,
+        chunks: &chunks,
+    };
     let mut jobs = Jobs::new(gate);
-    let read = read_deep_chunks(alloc, stream, part, window, &indexes, &mut jobs);
+    let read = read_bands(alloc, stream, &what, &mut jobs);
     jobs.close();
-    let chunks = read?;
-    let channels = stream.header(part).channels();
-    Ok(image_of(alloc, channels, window, &chunks)?)
+    read
 }

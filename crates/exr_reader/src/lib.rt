@@ -2,6 +2,7 @@
 //! part as an image. `check` tests all chunks.
 #![tactic(auto)]
 
+mod bands;
 mod cause;
 mod deep;
 mod fetched;

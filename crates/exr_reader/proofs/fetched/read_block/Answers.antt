@@ -1,13 +1,11 @@
 -- What was fetched is unpacked by the part's method, for the chunk's shape.
-use Rattle.std.proofs.Common.{◌≡◌, ℕ, IsTrue, Ok, Err, refl, ap, ◌∙◌}
+use Rattle.std.proofs.Common.{◌≡◌, IsTrue, Ok, Err, ap, ◌∙◌}
 use Rattle.exr_block.specs.Body.{data_of, content_of}
 use Rattle.exr_block.specs.Content.{raw_of_body}
 use Rattle.exr_chunks.specs.Heads.{Header}
 use Rattle.exr_chunks.specs.Region.{header_at, region_of}
 use Rattle.exr_header.specs.Head.{Head}
-use Rattle.exr_outside.specs.Count.{Rose}
 use Rattle.exr_stream.specs.Stream.{file_of}
-use Rattle.exr_reader.specs.Reading.{HasCause}
 use Rattle.exr_reader.specs.Sample.{raw_of}
 use Rattle.exr_base.specs.declared.refusal.Refusal.TheVariants as refused
 use Rattle.exr_stream.specs.declared.fault.FetchFault.TheVariants as fetch

@@ -1,5 +1,5 @@
 -- The chunks of a part, one after the other.
-use Rattle.std.proofs.Common.{rules, ◌≡◌, true, IsTrue, refl, sym, ap, ◌∙◌, subst, arith}
+use Rattle.std.proofs.Common.{rules, ◌≡◌, true, IsTrue, sym, subst, arith}
 use Rattle.exr_outside.specs.Count.{Rose}
 use Rattle.exr_stream.specs.Chunk.{Opened}
 use Rattle.exr_stream.specs.Stream.{file_of}

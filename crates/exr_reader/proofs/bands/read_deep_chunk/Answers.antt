@@ -6,7 +6,7 @@ use Rattle.exr_block.specs.declared.body.Block.{Block}
 use Rattle.exr_chunks.specs.Region.{header_at, region_of}
 use Rattle.exr_deep.specs.Body.{content_of}
 use Rattle.exr_image.proofs.Fitting.{samples_small}
-use Rattle.exr_reader.proofs.deep.read_deep_chunk.Goals as goal
+use Rattle.exr_reader.proofs.bands.read_deep_chunk.Goals as goal
 
 pub returns-clause-samples : goal.returns-clause-samples
 returns-clause-samples g c =
