@@ -1,12 +1,12 @@
 -- The input of a test calls for one stop at the most, and for none where its chunks are sound.
-use Rattle.std.proofs.Common.{◌≡◌, ◌<◌, inl, inr, ℕ, true, false, List, Result, Ok, Err, sym, ap, subst, ◌∙◌, arith}
+use Rattle.std.proofs.Common.{◌≡◌, inl, inr, ℕ, true, false, List, Err, sym, ap, subst, ◌∙◌, arith}
 use Rattle.std.proofs.lemmas.Bool.{cases_lt}
 use Rattle.exr_attributes.specs.declared.fault.HeaderFault.{HeaderFault}
 use Rattle.exr_block.specs.declared.fault.ChunkFault.{ChunkFault}
 use Rattle.exr_header.specs.Head.{Head, head_of}
 use Rattle.exr_stream.specs.Chunk.{Opened}
 use Rattle.exr_reader.specs.Sample.{raw_of}
-use Rattle.exr_reader.specs.Check.{is_sound, IsSoundFile, IsFirstUnsoundOf, IsFirstUnsound}
+use Rattle.exr_reader.specs.Check.{is_sound, IsFirstUnsoundOf, IsFirstUnsound}
 use Rattle.exr_tools.specs.declared.stop.Stop.{Stop}
 use Rattle.exr_tools.specs.declared.stop.Stop.TheVariants.{NoMemory, Words, File, Read, Write, Request}
 use Rattle.exr_tools.specs.declared.stop.FileFault.TheVariants as fault

@@ -17,7 +17,7 @@ use Rattle.exr_base.specs.Boxes.{is_empty, is_inside, IsInside}
 use Rattle.exr_layout.specs.Plan.{IsPlanOf}
 use Rattle.exr_request.specs.declared.fault.RequestFault.{RequestFault}
 use Rattle.exr_asked.specs.Demand.{Demand}
-use Rattle.exr_request.specs.Request.{is_window_of, window_asked, IsGranted, IsDeepGranted, IsRefused, IsRefusal}
+use Rattle.exr_request.specs.Request.{is_window_of, window_asked, IsGranted, IsDeepGranted, IsRefusal}
 use Rattle.exr_request.proofs.Passed.{readable, matched}
 use Rattle.exr_block.specs.declared.fault.ChunkFault.{ChunkFault}
 use Rattle.exr_outside.specs.Source.{SourceMeaning}

@@ -4,3 +4,4 @@ pub mod Due
 pub mod Granting
 pub mod Left
 pub mod Lines
+pub mod Pieces

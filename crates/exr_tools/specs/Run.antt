@@ -11,6 +11,7 @@ use Rattle.exr_tools.specs.declared.stop.Stop.{Stop}
 use Rattle.exr_tools.specs.declared.stop.Stop.TheVariants.{NoMemory, Words, File, Read, Write, Request}
 use Rattle.exr_tools.specs.declared.stop.FileFault.TheVariants as fault
 use Rattle.exr_base.specs.declared.shape.Box2i.{Box2i}
+use Rattle.exr_base.specs.Shape.{height_of}
 use Rattle.exr_block.specs.declared.fault.ChunkFault.{ChunkFault}
 use Rattle.exr_image.specs.Bytes.{bytes_in}
 use Rattle.exr_image.specs.Image.{counts_over, samples_over}
@@ -53,8 +54,8 @@ chunks_asked head d frame = chunks_over head d frame.window
 -- the bytes of the image of a window of a deep part: the counts, then of each channel all samples
 abbrev pub image_bytes : Opened → ℕ → Box2i → List ℕ
 image_bytes file part window =
-    bytes_in (counts_over (pixels_in file part) window)
-    (map (samples_over (pixels_in file part) window) (range_with_len 0 (length (header_in file part).channels)))
+    bytes_in (counts_over (pixels_in file part) window (height_of window))
+    (map (samples_over (pixels_in file part) window (height_of window)) (range_with_len 0 (length (header_in file part).channels)))
 
 -- ---- what a command gives
 

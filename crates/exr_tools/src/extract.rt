@@ -1,8 +1,10 @@
 //! The command `extract`: reading a file, laying out its samples and writing them, each part with the counts that its
 //! failures raise.
 
-ghost use Rattle.std.specs.Prelude.{◌≡◌, ◌++◌, [], ◌∷◌, ◌≤◌, ◌⊎◌, ℕ, List, IsTrue, IfOk, IfErr, OnOk, OnErr};
-ghost use Rattle.exr_outside.specs.Count.{Rose};
+ghost use Rattle.std.specs.Prelude.{◌≡◌, ◌++◌, [], ◌∷◌, ◌≤◌, ◌⊎◌, ℕ, List, IsTrue, IfOk, IfErr, OnOk, OnErr, length};
+ghost use Rattle.std.specs.List.{flat_map};
+ghost use Rattle.exr_outside.specs.Count.{HasCause, Rose};
+ghost use Rattle.exr_outside.specs.Sink.{AddsPrefix};
 ghost use Rattle.exr_outside.specs.Source.{IsSameSource};
 ghost use Rattle.exr_stream.specs.Stream.{HasHead, IsSameStream};
 ghost use Rattle.exr_tools.specs.Stops.{stop_of_reading, stop_of_deep};
@@ -17,7 +19,7 @@ use crate::print::print;
 use crate::stop::{FileFault, Stop, opening_stop};
 use exr_asked::{Asked, Choices};
 use exr_base::{Box2i, Failed, Refusal};
-use exr_outside::{Files, Gate, Printer, Sink, Source, World, append_all};
+use exr_outside::{CutShort, Files, Gate, Printer, Sink, Source, World, append_all};
 use exr_reader::{DeepStop, ReadCause, ReadStop, Target, Work, read_chunks, read_deep, read_first};
 use exr_request::{Fitted, Granted, RequestFault, request};
 use exr_stream::{OpenStop, Stream};
@@ -93,8 +95,8 @@ impl Extraction {
     }
 }
 
-/// Fills the buffer of what was granted with the samples of a stream's file. The first chunk is read before memory for the
-/// buffer is asked for, so that a small file which claims a large picture takes little.
+/// Fills the buffer of what was granted with the samples of a stream's file: one piece. The first chunk is read before
+/// memory for the buffer is asked for, so that a small file which claims a large picture takes little.
 fn filled<R: Threads + Sync, W: World, S: Source, G: Gate>(
     rt: &R,
     alloc: Global,
@@ -102,12 +104,12 @@ fn filled<R: Threads + Sync, W: World, S: Source, G: Gate>(
     granted: &Fitted,
     extraction: &Extraction,
     gate: &G,
-) -> Result<Vec<u8>, Stop>
+) -> Result<Vec<Vec<u8>>, Stop>
     requires workers { 1 ≤ extraction.now.workers }
     requires head { HasHead S.means stream.old }
     requires granted { IsGranted stream.old.head (demand_of extraction.now.asked) granted.now.layout granted.now.plan }
-    ensures buffer { IsTrue S.means.tells → IfOk result (λ buffer.
-        IsFlatExtracted (S.means.content stream.old.source) (demand_of extraction.now.asked) extraction.now.byte buffer.items) }
+    ensures pieces { IsTrue S.means.tells → IfOk result (λ pieces. IsFlatExtracted (S.means.content stream.old.source)
+        (demand_of extraction.now.asked) extraction.now.byte (flat_map (λ piece. piece.items) pieces.items)) }
     ensures same { IsSameStream S.means stream.old stream.new }
     ensures later { S.means.faults stream.old.source ≤ S.means.faults stream.new.source }
     ensures reason { IfErr result (λ stop. HasReason stop (λ _. ⊥)
@@ -136,7 +138,7 @@ fn filled<R: Threads + Sync, W: World, S: Source, G: Gate>(
                 gate,
                 buffer.as_mut_slice(),
             ) {
-                Ok(()) => Ok(buffer),
+                Ok(()) => Ok(vec![in alloc; buffer]?),
                 Err(ReadStop { cause, rounds: _ }) => Err(stop_of(file, part, cause)),
             }
         }
@@ -144,7 +146,7 @@ fn filled<R: Threads + Sync, W: World, S: Source, G: Gate>(
     }
 }
 
-/// The image of the window of a deep part of a stream's file, as bytes.
+/// The image of the window of a deep part of a stream's file, as pieces: its counts, and its samples of each channel.
 fn imaged<R: Threads + Sync, W: World, S: Source, G: Gate>(
     rt: &R,
     alloc: Global,
@@ -152,11 +154,11 @@ fn imaged<R: Threads + Sync, W: World, S: Source, G: Gate>(
     window: Box2i,
     extraction: &Extraction,
     gate: &G,
-) -> Result<Vec<u8>, Stop>
+) -> Result<Vec<Vec<u8>>, Stop>
     requires head { HasHead S.means stream.old }
     requires granted { IsDeepGranted stream.old.head (demand_of extraction.now.asked) window }
-    ensures buffer { IsTrue S.means.tells → IfOk result (λ buffer.
-        IsDeepExtracted (S.means.content stream.old.source) (demand_of extraction.now.asked) buffer.items) }
+    ensures pieces { IsTrue S.means.tells → IfOk result (λ pieces. IsDeepExtracted (S.means.content stream.old.source)
+        (demand_of extraction.now.asked) (flat_map (λ piece. piece.items) pieces.items)) }
     ensures same { IsSameStream S.means stream.old stream.new }
     ensures later { S.means.faults stream.old.source ≤ S.means.faults stream.new.source }
     ensures reason { IfErr result (λ stop. HasReason stop (λ _. ⊥)
@@ -173,24 +175,24 @@ fn imaged<R: Threads + Sync, W: World, S: Source, G: Gate>(
         extraction.work(),
         gate,
     ) {
-        Ok(image) => Ok(image.bytes(alloc)?),
+        Ok(image) => Ok(image.into_pieces(alloc)?),
         Err(stop) => Err(deep_stop_of(extraction.file, asked.part, stop)),
     }
 }
 
-/// The bytes of what is asked of a stream's file: a buffer, or the image of a deep part.
-fn stream_buffer<R: Threads + Sync, W: World, S: Source, G: Gate>(
+/// The bytes of what is asked of a stream's file, in pieces: a buffer, or the image of a deep part.
+fn stream_pieces<R: Threads + Sync, W: World, S: Source, G: Gate>(
     rt: &R,
     alloc: Global,
     stream: &mut Stream<W, S>,
     extraction: &Extraction,
     gate: &G,
-) -> Result<Vec<u8>, Stop>
+) -> Result<Vec<Vec<u8>>, Stop>
     requires modest { IsModest (demand_of extraction.now.asked) }
     requires workers { 1 ≤ extraction.now.workers }
     requires head { HasHead S.means stream.old }
-    ensures buffer { IsTrue S.means.tells → IfOk result (λ buffer.
-        IsExtracted (S.means.content stream.old.source) (demand_of extraction.now.asked) extraction.now.byte buffer.items) }
+    ensures pieces { IsTrue S.means.tells → IfOk result (λ pieces. IsExtracted (S.means.content stream.old.source)
+        (demand_of extraction.now.asked) extraction.now.byte (flat_map (λ piece. piece.items) pieces.items)) }
     ensures same { IsSameStream S.means stream.old stream.new }
     ensures later { S.means.faults stream.old.source ≤ S.means.faults stream.new.source }
     ensures reason { IfErr result (λ stop. HasReason stop (λ _. ⊥)
@@ -204,18 +206,18 @@ fn stream_buffer<R: Threads + Sync, W: World, S: Source, G: Gate>(
     }
 }
 
-/// The buffer of what is asked of a source's file, and the source.
-fn source_buffer<R: Threads + Sync, W: World, S: Source, G: Gate>(
+/// The bytes of what is asked of a source's file, in pieces, and the source.
+fn source_pieces<R: Threads + Sync, W: World, S: Source, G: Gate>(
     rt: &R,
     alloc: Global,
     source: S,
     extraction: &Extraction,
     gate: &G,
-) -> (S, Result<Vec<u8>, Stop>)
+) -> (S, Result<Vec<Vec<u8>>, Stop>)
     requires modest { IsModest (demand_of extraction.now.asked) }
     requires workers { 1 ≤ extraction.now.workers }
-    ensures buffer { IsTrue S.means.tells → IfOk result.1 (λ buffer.
-        IsExtracted (S.means.content source) (demand_of extraction.now.asked) extraction.now.byte buffer.items) }
+    ensures pieces { IsTrue S.means.tells → IfOk result.1 (λ pieces. IsExtracted (S.means.content source)
+        (demand_of extraction.now.asked) extraction.now.byte (flat_map (λ piece. piece.items) pieces.items)) }
     ensures same { IsSameSource S.means source result.0 }
     ensures later { S.means.faults source ≤ S.means.faults result.0 }
     ensures reason { IfErr result.1 (λ stop. HasReason stop (λ _. ⊥)
@@ -224,26 +226,26 @@ fn source_buffer<R: Threads + Sync, W: World, S: Source, G: Gate>(
 {
     match Stream::<W, S>::open(alloc, source) {
         Ok(mut stream) => {
-            let buffer = stream_buffer(rt, alloc, &mut stream, extraction, gate);
-            (stream.into_source(), buffer)
+            let pieces = stream_pieces(rt, alloc, &mut stream, extraction, gate);
+            (stream.into_source(), pieces)
         }
         Err(OpenStop { source, cause }) => (source, Err(opening_stop(extraction.file, cause))),
     }
 }
 
-/// The buffer of what is asked of the file of a name.
-fn file_buffer<R: Threads + Sync, W: World, F: Files<W>, G: Gate>(
+/// The bytes of what is asked of the file of a name, in pieces.
+fn file_pieces<R: Threads + Sync, W: World, F: Files<W>, G: Gate>(
     rt: &R,
     alloc: Global,
     files: &mut F,
     name: &str,
     extraction: &Extraction,
     gate: &G,
-) -> Result<Vec<u8>, Stop>
+) -> Result<Vec<Vec<u8>>, Stop>
     requires modest { IsModest (demand_of extraction.now.asked) }
     requires workers { 1 ≤ extraction.now.workers }
-    ensures buffer { IsTrue F.In.means.tells → IfOk result (λ buffer.
-        IsExtracted (W.bytes_of name.now) (demand_of extraction.now.asked) extraction.now.byte buffer.items) }
+    ensures pieces { IsTrue F.In.means.tells → IfOk result (λ pieces. IsExtracted (W.bytes_of name.now)
+        (demand_of extraction.now.asked) extraction.now.byte (flat_map (λ piece. piece.items) pieces.items)) }
     ensures opened { IsTrue F.means.tells → AsksAtMost (F.means.opened files.old) (F.means.opened files.new) name.now }
     ensures created { IsTrue F.means.tells → F.means.created files.new ≡ F.means.created files.old }
     ensures kept { IsTrue F.means.tells → F.means.kept files.new ≡ F.means.kept files.old }
@@ -255,23 +257,57 @@ fn file_buffer<R: Threads + Sync, W: World, F: Files<W>, G: Gate>(
 {
     match files.open(name) {
         Ok(source) => {
-            let (source, buffer) = source_buffer::<R, W, F::In, G>(
+            let (source, pieces) = source_pieces::<R, W, F::In, G>(
                 rt, alloc, source, extraction, gate,
             );
             files.back_in(source);
-            buffer
+            pieces
         }
         Err(Refusal::Fault(Failed)) => Err(Stop::Read),
         Err(Refusal::NoMemory) => Err(Stop::NoMemory),
     }
 }
 
-/// Makes a file of a name that holds these bytes.
-fn write_file<W: World, F: Files<W>>(files: &mut F, name: &str, bytes: &[u8]) -> Result<(), Stop>
+/// Adds the bytes of pieces at the end, one piece after the other.
+fn append_pieces<P: Printer>(printer: &mut P, pieces: &[Vec<u8>]) -> Result<(), Failed>
+    ensures all { IsTrue P.means.tells
+        → OnOk result (P.means.holds printer.new ≡ P.means.holds printer.old ++ flat_map (λ piece. piece.items) pieces.now) }
+    ensures cut { IsTrue P.means.tells → OnErr result
+        (AddsPrefix (flat_map (λ piece. piece.items) pieces.now) (P.means.holds printer.old) (P.means.holds printer.new)) }
+    ensures name { P.means.name printer.new ≡ P.means.name printer.old }
+    ensures cause { HasCause (P.means.faults printer.old) (P.means.faults printer.new) result }
+{
+    for piece in pieces {
+        match append_all(printer, piece) {
+            Ok(()) => {}
+            Err(CutShort { taken: _ }) => return Err(Failed),
+        }
+    }
+    Ok(())
+}
+
+/// How many bytes pieces have.
+fn size_of_pieces(pieces: &[Vec<u8>]) -> u128
+    ensures { result ≡ length (flat_map (λ piece. piece.items) pieces.now) }
+{
+    let mut size = 0;
+    for piece in pieces {
+        size += piece.len() as u128;
+    }
+    size
+}
+
+/// Makes a file of a name that holds the bytes of these pieces.
+fn write_file<W: World, F: Files<W>>(
+    files: &mut F,
+    name: &str,
+    pieces: &[Vec<u8>],
+) -> Result<(), Stop>
     ensures kept { IsTrue F.means.tells → IsTrue F.Out.means.tells
-        → OnOk result (F.means.kept files.new ≡ F.means.kept files.old ++ (name.now, bytes.now) ∷ []) }
+        → OnOk result (F.means.kept files.new ≡ F.means.kept files.old ++ (name.now, flat_map (λ piece. piece.items) pieces.now) ∷ []) }
     ensures begun { IsTrue F.means.tells → IsTrue F.Out.means.tells
-        → OnErr result (KeepsFirst (F.means.kept files.old) (F.means.kept files.new) name.now bytes.now) }
+        → OnErr result (KeepsFirst (F.means.kept files.old) (F.means.kept files.new) name.now
+        (flat_map (λ piece. piece.items) pieces.now)) }
     ensures kept_most { IsTrue F.means.tells
         → KeepsAtMost (F.means.kept files.old) (F.means.kept files.new) name.now }
     ensures created { IsTrue F.means.tells
@@ -286,7 +322,7 @@ fn write_file<W: World, F: Files<W>>(files: &mut F, name: &str, bytes: &[u8]) ->
 {
     match files.create(name) {
         Ok(mut sink) => {
-            let written = append_all(&mut sink, bytes);
+            let written = append_pieces(&mut sink, pieces);
             files.back_out(sink);
             written.map_err(|_| Stop::Write)
         }
@@ -295,17 +331,19 @@ fn write_file<W: World, F: Files<W>>(files: &mut F, name: &str, bytes: &[u8]) ->
     }
 }
 
-/// Makes a file of a name that holds these bytes, and prints how many there are.
+/// Makes a file of a name that holds the bytes of these pieces, and prints how many there are.
 fn deliver<W: World, F: Files<W>, O: Printer>(
     alloc: Global,
     files: &mut F,
     out: &mut O,
     name: &str,
-    bytes: &[u8],
+    pieces: &[Vec<u8>],
 ) -> Result<(), Stop>
-    ensures done { OnOk result (IsDone (told_of F.In.means F.means F.Out.means O.means) (buffer_under name.now bytes.now)
+    ensures done { OnOk result (IsDone (told_of F.In.means F.means F.Out.means O.means)
+        (buffer_under name.now (flat_map (λ piece. piece.items) pieces.now))
         (scene_of F.means O.means files.old out.old) (scene_of F.means O.means files.new out.new)) }
-    ensures left { IfErr result (λ stop. IsLeft stop (told_of F.In.means F.means F.Out.means O.means) (buffer_under name.now bytes.now)
+    ensures left { IfErr result (λ stop. IsLeft stop (told_of F.In.means F.means F.Out.means O.means)
+        (buffer_under name.now (flat_map (λ piece. piece.items) pieces.now))
         (scene_of F.means O.means files.old out.old) (scene_of F.means O.means files.new out.new)) }
     ensures kept { IsTrue F.means.tells
         → KeepsAtMost (F.means.kept files.old) (F.means.kept files.new) name.now }
@@ -317,8 +355,8 @@ fn deliver<W: World, F: Files<W>, O: Printer>(
         (Rose (F.means.write_faults files.old) (F.means.write_faults files.new)
         ⊎ Rose (O.means.faults out.old) (O.means.faults out.new))) }
 {
-    write_file::<W, F>(files, name, bytes)?;
-    let count = bytes.len();
+    write_file::<W, F>(files, name, pieces)?;
+    let count = size_of_pieces(pieces);
     let line = format!(in alloc; "extract bytes {count}\n")?;
     print(out, line.as_bytes())
 }
@@ -354,6 +392,6 @@ pub(crate) fn extract<R: Threads + Sync, W: World, F: Files<W>, O: Printer, G: G
         (Rose (F.means.write_faults files.old) (F.means.write_faults files.new)
         ⊎ Rose (O.means.faults out.old) (O.means.faults out.new))) }
 {
-    let buffer = file_buffer::<R, W, F, G>(rt, alloc, files, input, extraction, gate)?;
-    deliver::<W, F, O>(alloc, files, out, output, &buffer)
+    let pieces = file_pieces::<R, W, F, G>(rt, alloc, files, input, extraction, gate)?;
+    deliver::<W, F, O>(alloc, files, out, output, &pieces)
 }

@@ -1,5 +1,5 @@
 -- What was granted is read: the first chunk, and then the window.
-use Rattle.std.proofs.Common.{rules, ◌≡◌, ◌<◌, ◌∙◌, false, ℕ, List, length, replicate, sym, ap, subst}
+use Rattle.std.proofs.Common.{rules, ◌≡◌, ◌<◌, ◌∙◌, false, ℕ, List, length, replicate, sym, ap, subst, append-nil}
 use Rattle.exr_header.specs.Head.{Head}
 use Rattle.exr_base.specs.Boxes.{IsInside}
 use Rattle.exr_chunks.specs.Heads.{is_deep}
@@ -9,6 +9,7 @@ use Rattle.exr_layout.specs.Plan.{IsPlanOf}
 use Rattle.exr_asked.specs.Demand.{demand_of}
 use Rattle.exr_reader.specs.Window.{IsFilled, HaveDataOf}
 use Rattle.exr_tools.specs.Run.{with_head, target_in, IsFlatExtracted}
+use Rattle.exr_tools.proofs.Pieces.{bytes_of}
 use Rattle.exr_tools.proofs.Granting.{ground, given_back, carried_back}
 use Rattle.exr_tools.proofs.extract.filled.Goals as goal
 
@@ -36,8 +37,8 @@ read_chunks-requires-clause-window g c κs within =
     subst (λ (head : Head). IsInside (header_at head.parts d.part).window c.args.granted.now.layout.window) (sym c.read_first.ensures.same.head)
     (ground c.args.stream.now.head d c.args.granted.now.layout c.args.granted.now.plan c.requires.granted).inside
 
-pub returns-in-Ok-read_chunks-clause-buffer : goal.returns-in-Ok-read_chunks-clause-buffer
-returns-in-Ok-read_chunks-clause-buffer g c = λ told.
+pub returns-in-Ok-read_chunks-clause-pieces : goal.returns-in-Ok-read_chunks-clause-pieces
+returns-in-Ok-read_chunks-clause-pieces g c = λ told.
     let means = g.S.Source.means in
     let s = c.args.stream.now in
     let t = c.read_first.new.stream in
@@ -54,7 +55,8 @@ returns-in-Ok-read_chunks-clause-buffer g c = λ told.
     c.deref.ensures.value ∙ c.in-Ok.ensures.chunks ∙ ap (chunks_of_window (header_at s.head.parts d.part)) c.window.ensures.value in
     let filled = carried_back means s t (λ o. IsFilled (target_in o d f plan) old new) c.read_first.ensures.same told (c.in-Ok-read_chunks.ensures.filled told) in
     let chunks = carried_back means s t (λ o. HaveDataOf o d.part listed (length listed)) c.read_first.ensures.same told (c.in-Ok-read_chunks.ensures.chunks told) in
-    subst (IsFlatExtracted file d c.args.extraction.now.byte) (sym (given_back new c.in_ok-buffer-in-Ok.buffer.items c.in_ok-buffer-in-Ok.buffer.len (search rules)))
+    subst (IsFlatExtracted file d c.args.extraction.now.byte) (sym
+    (ap bytes_of c.in_ok-vec-in-Ok-read_chunks.ensures.items ∙ append-nil _ ∙ given_back new c.in_ok-buffer-in-Ok.buffer.items c.in_ok-buffer-in-Ok.buffer.len (search rules)))
     (record {
       from = record {
         head = s.head;

@@ -9,8 +9,8 @@ pub read_deep-requires-clause-inside : goal.read_deep-requires-clause-inside
 read_deep-requires-clause-inside g c κs within =
     (deep_ground c.args.stream.now.head (demand_of c.args.extraction.now.asked) c.args.window c.requires.granted).inside
 
-pub returns-in_ok-bytes-in-Ok-clause-buffer : goal.returns-in_ok-bytes-in-Ok-clause-buffer
-returns-in_ok-bytes-in-Ok-clause-buffer g c = λ told.
+pub returns-in_ok-into_pieces-in-Ok-clause-pieces : goal.returns-in_ok-into_pieces-in-Ok-clause-pieces
+returns-in_ok-into_pieces-in-Ok-clause-pieces g c = λ told.
     let s = c.args.stream.now in
     let image = c.in-Ok.ensures.image told in
     record {
@@ -23,5 +23,5 @@ returns-in_ok-bytes-in-Ok-clause-buffer g c = λ told.
         chunks = c.in-Ok.ensures.chunks told;
         small = c.in-Ok.ensures.small told;
       };
-      image = c.in_ok-bytes-in-Ok.ensures ∙ (λ i. bytes_in (image.counts i) (image.samples i));
+      image = c.in_ok-into_pieces-in-Ok.ensures ∙ (λ i. bytes_in (image.counts i) (image.samples i));
     }

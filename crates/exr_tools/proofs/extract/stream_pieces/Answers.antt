@@ -5,7 +5,7 @@ use Rattle.exr_asked.specs.Demand.{demand_of}
 use Rattle.exr_request.specs.Request.{IsRefusal}
 use Rattle.exr_tools.specs.Run.{IsUnread, HasReason}
 use Rattle.exr_tools.proofs.Granting.{refused_reason}
-use Rattle.exr_tools.proofs.extract.stream_buffer.Goals as goal
+use Rattle.exr_tools.proofs.extract.stream_pieces.Goals as goal
 
 pub returns-in-Err-clause-reason : goal.returns-in-Err-clause-reason
 returns-in-Err-clause-reason g c =
