@@ -69,21 +69,30 @@ fn missing_files(rt: HostRuntime) -> Result<(), Fail> {
     Ok(())
 }
 
+/// Whether a file was begun and not finished: what it holds is a beginning of the whole, and less.
+fn is_begun(written: Option<&[u8]>, whole: Option<&[u8]>) -> bool {
+    match (written, whole) {
+        (Some(written), Some(whole)) => {
+            written.len() < whole.len() && whole.starts_with(written)
+        }
+        _ => false,
+    }
+}
+
 /// Whether a run stopped since a call of this kind failed: its count has gone up, and nothing is printed. What was written is
 /// a beginning of what a run without failures writes, if it writes a file.
 fn is_stop_of(call: Call, got: &Outcome, whole: Option<&[u8]>) -> bool {
     let written = got.written.as_deref();
-    let empty: &[u8] = &[];
-    let (stop, read, write, kept) = match call {
-        Call::Open | Call::Len | Call::Read => (Stop::Read, 1, 0, None),
-        Call::Create => (Stop::Write, 0, 1, None),
-        Call::Append => (Stop::Write, 0, 1, Some(empty)),
-        Call::Print => (Stop::Write, 0, 0, whole),
+    let (stop, read, write, is_kept) = match call {
+        Call::Open | Call::Len | Call::Read => (Stop::Read, 1, 0, written.is_none()),
+        Call::Create => (Stop::Write, 0, 1, written.is_none()),
+        Call::Append => (Stop::Write, 0, 1, is_begun(written, whole)),
+        Call::Print => (Stop::Write, 0, 0, written == whole),
     };
     got.printed.is_empty()
         && got.stop == Some(stop)
         && got.has_faults(read, write)
-        && written == kept
+        && is_kept
 }
 
 /// Lets a call fail, and says whether it was made: then the run stops for it.
