@@ -12,7 +12,7 @@ use std::marker::Brand;
 use std::thread::Threads;
 
 /// Files below this number of bytes are changed in every way; in others single bits are changed.
-const CHANGED_WHOLLY: usize = 700;
+const CHANGED_WHOLLY: usize = 1000;
 
 /// How many bytes the output has room for, and standard output.
 const ROOM: usize = 1 << 12;
