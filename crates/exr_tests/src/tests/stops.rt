@@ -89,10 +89,7 @@ fn is_stop_of(call: Call, got: &Outcome, whole: Option<&[u8]>) -> bool {
         Call::Append => (Stop::Write, 0, 1, is_begun(written, whole)),
         Call::Print => (Stop::Write, 0, 0, written == whole),
     };
-    got.printed.is_empty()
-        && got.stop == Some(stop)
-        && got.has_faults(read, write)
-        && is_kept
+    got.printed.is_empty() && got.stop == Some(stop) && got.has_faults(read, write) && is_kept
 }
 
 /// Lets a call fail, and says whether it was made: then the run stops for it.
