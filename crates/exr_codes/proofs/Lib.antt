@@ -2,7 +2,7 @@ pub mod Padded
 pub mod BitFronts
 pub mod Intervals
 pub mod Orders
-pub mod Fronts
+pub mod Finding
 pub mod Reading
 pub mod Nine
 pub mod Rests

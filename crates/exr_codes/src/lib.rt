@@ -3,9 +3,9 @@
 #![tactic(auto)]
 
 mod decoder;
-mod fast;
 mod item;
 mod laws;
+mod leasts;
 mod order;
 mod reader;
 mod table;

@@ -44,7 +44,7 @@ module _ (least : ℕ) (lengths : List ℕ) (complete : IsComplete lengths) (run
 -- ---- reading by a front
 
 module _ (least : ℕ) (lengths : List ℕ) (wanted : ℕ) (all : List Bool) where
-  read_word : (rest : List Bool) (words : List ℕ) (w : ℕ) (behind : List Bool) → HasRead least lengths wanted all rest words → length words < wanted → token_at least lengths rest ≡ Some (word w, behind) → HasRead least lengths wanted all behind (words ++ w ∷ [])
+  pub read_word : (rest : List Bool) (words : List ℕ) (w : ℕ) (behind : List Bool) → HasRead least lengths wanted all rest words → length words < wanted → token_at least lengths rest ≡ Some (word w, behind) → HasRead least lengths wanted all behind (words ++ w ∷ [])
   read_word rest words w behind read fewer token = record { before = w; so_far = goes_on_word least lengths wanted all rest words read.before w behind read.so_far fewer token }
 
   module _ (words : List ℕ) (count : ℕ) (room : count + 2 ≤ length words) (fits : length words ≤ wanted) (rest : List Bool) (read : HasRead least lengths wanted all rest (take count words)) where

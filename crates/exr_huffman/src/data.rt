@@ -1,6 +1,6 @@
 //! The data bits of a block: they are read code by code until all words are there.
 
-ghost use Rattle.std.specs.Prelude.{◌≡◌, ◌≢◌, ℕ, ◌+◌, ◌-◌, ◌*◌, ◌^◌, ◌<◌, ◌≤◌, ◌++◌, false, length, take, replicate, slice_index, option_map, IfSome, MatchResult};
+ghost use Rattle.std.specs.Prelude.{◌≡◌, ◌≢◌, ℕ, ◌+◌, ◌-◌, ◌*◌, ◌^◌, ◌<◌, ◌≤◌, ◌++◌, Bool, false, List, length, take, replicate, slice_index, option_map, IfSome, MatchResult};
 ghost use Rattle.exr_base.specs.Bits.{number_of};
 ghost use Rattle.exr_base.specs.Refusal.{Gives};
 ghost use Rattle.exr_codes.specs.Codes.{IsComplete, entry_at};
@@ -9,9 +9,11 @@ ghost use Rattle.exr_huffman.specs.Blocks.{data_bits, data_words_of, is_run};
 ghost use Rattle.exr_codes.specs.Rest.{rest_at};
 ghost use Rattle.exr_huffman.specs.Fronts.{AreFronts};
 ghost use Rattle.exr_huffman.specs.Nexts.{IsNext, data_rest};
+ghost use Rattle.exr_huffman.specs.Reading.{HasRead};
 
 use crate::fault::HufFault;
-use crate::fronts::{Front, fronts_of, take_fronts};
+use crate::fronts::{FRONTS, Front, fronts_of, take_fronts};
+use crate::rounds::take_rounds;
 use exr_base::Refusal;
 use exr_codes::{Decoder, Found, Window};
 use std::alloc::Global;
@@ -134,6 +136,41 @@ fn next_token(decoder: &Decoder, window: &mut Window<'_>, bits: u64, least: u32,
     Next::More(take_count(window))
 }
 
+/// Writes words from word `count` on, by fronts where there is a table of them and else by rounds of three codes, until
+/// a token comes that these do not take or an end is near. Gives how many words there are then.
+#[inline(always)]
+fn take_words(
+    words: &mut [u16],
+    count: usize,
+    window: &mut Window<'_>,
+    bits: u64,
+    fronts: &[Front],
+    decoder: &Decoder,
+    least: u32,
+    run: u32,
+) -> usize
+    requires complete { IsComplete decoder.now }
+    requires fronts { AreFronts least decoder.now fronts.now }
+    requires run { length decoder.now ≡ run + 1 }
+    requires range { least + run ≤ 65536 }
+    requires there { bits ≤ 8 * length window.old.bytes.now }
+    requires within { window.old.at ≤ bits }
+    requires few { bits < 2 ^ 32 }
+    requires room { count ≤ length words.old }
+    ensures read { (wanted : ℕ) (all : List Bool) → length words.old ≤ wanted → HasRead least decoder.now wanted all (data_rest window.old.bytes.now bits window.old.at) (take count words.old) → HasRead least decoder.now wanted all (data_rest window.new.bytes.now bits window.new.at) (take result words.new) }
+    ensures bytes { window.new.bytes.now ≡ window.old.bytes.now }
+    ensures from { window.old.at ≤ window.new.at }
+    ensures within { window.new.at ≤ bits }
+    ensures more { count ≤ result }
+    ensures room { result ≤ length words.new }
+{
+    if fronts.len() == FRONTS {
+        take_fronts(words, count, window, bits, fronts, decoder, least)
+    } else {
+        take_rounds(words, count, window, bits, decoder, least, run)
+    }
+}
+
 /// Fills a slice with the words that the data bits spell, if they are exactly as many.
 fn fill_words(
     words: &mut [u16],
@@ -164,7 +201,7 @@ fn fill_words(
         match next_token(decoder, window, bits, least, run) {
             Next::Word(word) => {
                 words[count] = word;
-                count = take_fronts(words, count + 1, window, bits, fronts, decoder, least);
+                count = take_words(words, count + 1, window, bits, fronts, decoder, least, run);
                 before = words[count - 1];
             }
             Next::More(more) => {

@@ -13,7 +13,7 @@ use exr_codes::{Decoder, Window};
 use std::alloc::Global;
 
 /// How many fronts there are.
-const FRONTS: usize = 1 << 12;
+pub(crate) const FRONTS: usize = 1 << 12;
 
 /// The words that a front begins with, as many as `count` says, and how many bits their codes have. There are none
 /// where the run symbol's code or a longer code begins it.
@@ -201,6 +201,7 @@ pub(crate) fn take_fronts(
     least: u32,
 ) -> usize
     requires fronts { AreFronts least decoder.now fronts.now }
+    requires size { length fronts.now ≡ 4096 }
     requires there { bits ≤ 8 * length window.old.bytes.now }
     requires within { window.old.at ≤ bits }
     requires few { bits < 2 ^ 32 }
@@ -213,7 +214,7 @@ pub(crate) fn take_fronts(
     ensures room { result ≤ length words.new }
 {
     let mut count = count;
-    let mut going = fronts.len() == FRONTS;
+    let mut going = true;
     'rounds: while going && words.len() - count >= 10 && bits - window.at >= 60 {
         let (after, more) = take_five(words, count, window, bits, fronts, decoder, least);
         count = after;

@@ -5,6 +5,7 @@ mod block;
 mod data;
 mod fault;
 mod fronts;
+mod rounds;
 
 pub use block::unpack;
 pub use fault::HufFault;

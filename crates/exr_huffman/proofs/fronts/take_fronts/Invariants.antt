@@ -1,4 +1,4 @@
-use Rattle.std.proofs.Common.{◌≡◌, ℕ, ◌+◌, ◌-◌, ◌≤◌, Bool, true, List, length, take, cond}
+use Rattle.std.proofs.Common.{◌≡◌, ℕ, ◌+◌, ◌-◌, ◌≤◌, Bool, List, length, take, cond}
 use Rattle.exr_huffman.specs.Nexts.{data_rest}
 use Rattle.exr_huffman.specs.Reading.{HasRead}
 use Rattle.exr_huffman.proofs.fronts.take_fronts.Given as goal
@@ -10,7 +10,6 @@ invariant-rounds l = record {
   from : l.fn.window.at ≤ l.window.at;
   more : l.fn.count ≤ l.count;
   fewer : l.count ≤ length l.words;
-  size : l.going ≡ true → length l.fronts ≡ 4096;
   read : (wanted : ℕ) (all : List Bool) → length l.fn.words ≤ wanted → HasRead l.least l.decoder wanted all (data_rest l.fn.window.bytes.now l.bits l.fn.window.at) (take l.fn.count l.fn.words) → HasRead l.least l.decoder wanted all (data_rest l.window.bytes.now l.bits l.window.at) (take l.count l.words);
 }
 

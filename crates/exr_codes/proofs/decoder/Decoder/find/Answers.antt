@@ -1,12 +1,21 @@
-use Rattle.std.proofs.Common.{◌/◌, ◌^◌, arith}
-use Rattle.exr_codes.specs.Decoding.{IsFastAt}
-use Rattle.exr_codes.proofs.Fronts.{found_short, short_is}
+use Rattle.std.proofs.Common.{arith}
+use Rattle.exr_codes.proofs.Finding.{least_read, below_shorter}
 use Rattle.exr_codes.proofs.decoder.Decoder.find.Goals as goal
 
-pub returns-then-fast-gt0 : goal.returns-then-fast-gt0
-returns-then-fast-gt0 c =
-    let fast = c.index-fast.result.now in
-    let lengths = c.self.inside.lengths.items in
-    let front = c.args.window / 2 ^ 52 in
-    let known : IsFastAt lengths front fast = rw c.index-fast.ensures (c.self.invariant.fronts.right front fast (omega arith)) in
-    rw (← c.self.view_is) (found_short lengths c.args.window fast (short_is lengths front fast c.if-fast-gt0.true known))
+pub find_from-requires-clause-some : goal.find_from-requires-clause-some
+find_from-requires-clause-some c =
+    let d = c.self.inside in
+    let is = least_read d.lengths.items d.leasts.items c.args.window c.index-least.result.now c.self.invariant.fronts (omega arith) c.index-least.ensures in
+    is.some
+
+pub find_from-requires-clause-small : goal.find_from-requires-clause-small
+find_from-requires-clause-small c =
+    let d = c.self.inside in
+    let is = least_read d.lengths.items d.leasts.items c.args.window c.index-least.result.now c.self.invariant.fronts (omega arith) c.index-least.ensures in
+    is.small
+
+pub find_from-requires-clause-above : goal.find_from-requires-clause-above
+find_from-requires-clause-above c =
+    let d = c.self.inside in
+    let is = least_read d.lengths.items d.leasts.items c.args.window c.index-least.result.now c.self.invariant.fronts (omega arith) c.index-least.ensures in
+    rw (← c.self.view_is) (below_shorter d.lengths.items c.args.window c.index-least.result.now is)

@@ -4,8 +4,8 @@ use Rattle.std.proofs.Common.{refl}
 use Rattle.exr_codes.specs.Codes.{weight_above}
 use Rattle.exr_codes.specs.Decoding.{count_above}
 use Rattle.exr_codes.proofs.Orders.{longer_is_small}
-use Rattle.exr_codes.proofs.Fronts.{rank_below, found_long, place_below}
-use Rattle.exr_codes.proofs.decoder.Decoder.find_long.Goals as goal
+use Rattle.exr_codes.proofs.Finding.{rank_below, found_ranked, place_below}
+use Rattle.exr_codes.proofs.decoder.Decoder.find_from.Goals as goal
 
 pub longer-smaller : goal.longer-smaller
 longer-smaller c =
@@ -51,4 +51,4 @@ returns c =
     let within = place_below lengths d.sorted.items len rank is.in_order known.some below in
     let place : get_or d.places len 0 + (c.args.window / 64 - get_or d.firsts len 0) / 2 ^ (58 - len) ≡ count_above len lengths + rank = rw (first, is.starts.place len known.small) refl in
     let entry : c.index-entry.result.now ≡ get_or d.sorted.items (count_above len lengths + rank) 0 = get_or_read d.sorted.items (count_above len lengths + rank) c.index-entry.result.now within (c.index-entry.ensures ∙ ap (λ n. get_or d.sorted.items n c.index-entry.result.now) place) 0 in
-    rw (← c.self.view_is, entry) (found_long lengths is.complete c.args.window len known.some known.small from known.above (get_or d.sorted.items (count_above len lengths + rank) 0) ranked)
+    rw (← c.self.view_is, entry) (found_ranked lengths is.complete c.args.window len known.some known.small from known.above (get_or d.sorted.items (count_above len lengths + rank) 0) ranked)

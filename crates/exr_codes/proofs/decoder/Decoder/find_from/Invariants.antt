@@ -1,6 +1,6 @@
 use Rattle.std.proofs.Common.{◌-◌, ◌<◌, ◌≤◌}
 use Rattle.exr_codes.specs.Codes.{weight_above}
-use Rattle.exr_codes.proofs.decoder.Decoder.find_long.Given as goal
+use Rattle.exr_codes.proofs.decoder.Decoder.find_from.Given as goal
 
 abbrev pub invariant-longer : goal.invariant-longer
 invariant-longer l = record {
