@@ -89,6 +89,28 @@ band_more cell old lines new z line first wide count i size is fits inside sized
   };
 }
 
+-- cells of three bytes after those before column 8 * i, which were put at once
+pub band_flats : (packed old mid new : List ℕ) (from at line first wide i n most : ℕ) → at ≡ from + cells_len i (drop from packed) → first + wide ≤ line → 8 * (i + most) ≤ wide → n ≤ most
+    → BandPut old mid (drop from packed) line first wide 4 (8 * i)
+    → ((y b : ℕ) → y < 4 → b < 8 * n → get_or new (y * line + (first + 8 * i + b)) 0 ≡ get_or (bytes_of_halves (cell_at (drop at packed) (b / 8))) (8 * y + b % 8) 0)
+    → AreOthersKept mid new line (first + 8 * i) (8 * most) → BandPut old new (drop from packed) line first wide 4 (8 * (i + n))
+band_flats packed old mid new from at line first wide i n most is fits inside few before placed others = record {
+  placed = λ y b lt narrow upto. elim (cases_lt b (8 * i)) [
+    | inl left ↦ others.kept y (first + b) (omega arith) (inl (omega arith)) ∙ before.placed y b lt narrow left
+    | inr here ↦
+        let past = b - 8 * i in
+        let place : first + b ≡ first + 8 * i + past = omega arith in
+        let column : i + past / 8 ≡ b / 8 = omega arith in
+        let rest : past % 8 ≡ b % 8 = omega arith in
+        ap (λ k. get_or new (y * line + k) 0) place ∙ placed y past lt (omega arith)
+        ∙ ap (λ cell. get_or (bytes_of_halves cell) (8 * y + past % 8) 0) (cell_of_band packed from i (past / 8) at is)
+        ∙ (λ j. get_or (bytes_of_halves (cell_at (drop from packed) (column j))) (8 * y + rest j) 0)
+  ];
+  others = record {
+    kept = λ y b lt apart. others.kept y b lt (elim apart [ inl left ↦ inl (omega arith) | inr right ↦ inr (omega arith) ]) ∙ before.others.kept y b lt apart;
+  };
+}
+
 -- ---- a plane
 
 -- the bytes of the first rows of a plane; no byte beside the rows is changed

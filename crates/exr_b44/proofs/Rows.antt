@@ -1,11 +1,11 @@
 -- Bytes put into lines.
-use Rattle.std.proofs.Common.{◌≡◌, ℕ, ◌+◌, ◌-◌, ◌*◌, ◌/◌, ◌%◌, ◌<◌, ◌≤◌, ◌≢◌, ◌⊎◌, inl, inr, List, ◌++◌, length, get_or, take, drop, refl, sym, ap, subst, ◌∙◌, arith}
+use Rattle.std.proofs.Common.{◌≡◌, ℕ, ◌+◌, ◌-◌, ◌*◌, ◌/◌, ◌%◌, ◌<◌, ◌≤◌, inl, inr, List, ◌++◌, length, get_or, take, drop, refl, sym, ap, subst, ◌∙◌, arith}
 use Rattle.std.proofs.lemmas.Bool.{cases_lt, cases_eq}
 use Rattle.std.proofs.lemmas.Nat.{same_from_place, mul-add-lt, div_below, div-add-mod', mod_below}
 use Rattle.std.proofs.lemmas.List.{ext_get_or, get_or_append_left, get_or-append_right, get_or-take, get_or-drop, length-take-le, length-drop}
 use Rattle.std.proofs.lemmas.Slice.{take-put_mid_below, drop-put_mid}
 use borrow.Rule.Slice.PartMut.{put_mid, post_of}
-use Rattle.exr_b44.specs.Lines.{LinePut, LinesPut, RowsPut}
+use Rattle.exr_b44.specs.Lines.{PiecePut, LinePut, LinesPut, RowsPut}
 
 -- a byte of a slice of which a part was written anew
 pub in_part : (words new : List ℕ) (first len k : ℕ) → first ≤ length words → length new ≡ len → k < len → get_or (put_mid first len words new) (first + k) 0 ≡ get_or new k 0
@@ -23,11 +23,6 @@ behind_part words new first len k inside long le =
     let at : k ≡ k + 0 = omega arith in
     ap (λ i. get_or (put_mid first len words new) i 0) at ∙ sym (get_or-drop k (put_mid first len words new) 0 0)
     ∙ ap (λ l. get_or l 0 0) (drop-put_mid first len words new k le inside long) ∙ get_or-drop k words 0 0 ∙ ap (λ i. get_or words i 0) (sym at)
-
--- a piece put into line y from a place of it on
-pub record PiecePut (piece old new : List ℕ) (wide from count y : ℕ) : Type 0 where
-  pub placed : (b : ℕ) → b < count → get_or new (y * wide + (from + b)) 0 ≡ get_or piece b 0
-  pub others : (line b : ℕ) → b < wide → (line ≢ y) ⊎ ((b < from) ⊎ (from + count ≤ b)) → get_or new (line * wide + b) 0 ≡ get_or old (line * wide + b) 0
 
 pub piece_put : (rows new : List ℕ) (wide from count y : ℕ) → (y + 1) * wide ≤ length rows → from + count ≤ wide → length new ≡ count
     → PiecePut new rows (put_mid (y * wide + from) count rows new) wide from count y
@@ -54,15 +49,18 @@ piece_put rows new wide from count y room inside long =
       ];
     }
 
+-- a piece that is a line of a cell
+pub line_of_piece : (cell piece old new : List ℕ) (wide from count y : ℕ) → piece ≡ take count (drop (8 * y) cell) → PiecePut piece old new wide from count y → LinePut cell old new wide from count y
+line_of_piece cell piece old new wide from count y is put = record {
+  placed = λ b lt. put.placed b lt ∙ ap (λ l. get_or l b 0) is ∙ get_or-take count (drop (8 * y) cell) b 0 lt ∙ get_or-drop (8 * y) cell b 0;
+  others = put.others;
+}
+
 pub line_put : (cell rows new : List ℕ) (wide from count y : ℕ) → 8 * y + count ≤ length cell → (y + 1) * wide ≤ length rows → from + count ≤ wide
     → new ≡ take count (drop (8 * y) cell) → LinePut cell rows (put_mid (y * wide + from) count rows new) wide from count y
 line_put cell rows new wide from count y there room inside is =
     let long : length new ≡ count = ap length is ∙ length-take-le count (drop (8 * y) cell) (omega (arith, length-drop (8 * y) cell)) in
-    let put = piece_put rows new wide from count y room inside long in
-    record {
-      placed = λ b lt. put.placed b lt ∙ ap (λ l. get_or l b 0) is ∙ get_or-take count (drop (8 * y) cell) b 0 lt ∙ get_or-drop (8 * y) cell b 0;
-      others = put.others;
-    }
+    line_of_piece cell new rows (put_mid (y * wide + from) count rows new) wide from count y is (piece_put rows new wide from count y room inside long)
 
 -- ---- rows of a plane in lines
 

@@ -1,6 +1,11 @@
 -- Lines of so many bytes in a slice.
 use Rattle.std.specs.Prelude.{◌≡◌, ◌≢◌, ℕ, ◌+◌, ◌-◌, ◌*◌, ◌/◌, ◌%◌, ◌<◌, ◌≤◌, ◌⊎◌, min, List, slice_index}
 
+-- a piece of so many bytes now stands in line y from a place of it on, and every other byte is as before
+pub record PiecePut (piece old new : List ℕ) (wide from count y : ℕ) : Type 0 where
+  pub placed : (b : ℕ) → b < count → slice_index new (y * wide + (from + b)) ≡ slice_index piece b
+  pub others : (line b : ℕ) → b < wide → (line ≢ y) ⊎ ((b < from) ⊎ (from + count ≤ b)) → slice_index new (line * wide + b) ≡ slice_index old (line * wide + b)
+
 -- the first bytes of line y of a cell now stand from a place of line y on, and every other byte is as before
 pub record LinePut (cell old new : List ℕ) (wide from count y : ℕ) : Type 0 where
   pub placed : (b : ℕ) → b < count → slice_index new (y * wide + (from + b)) ≡ slice_index cell (8 * y + b)

@@ -6,6 +6,7 @@
 mod block;
 mod channel;
 mod fault;
+mod flats;
 mod lanes;
 mod packing;
 mod reading;

@@ -5,6 +5,7 @@ ghost use Rattle.exr_b44.specs.Cell.{bytes_of_halves};
 ghost use Rattle.exr_b44.specs.Lines.{LinePut, LinesPut, RowsPut, AreOthersKept};
 ghost use Rattle.exr_b44.specs.Plane.{cells_for, cells_len, cell_at, plane_of};
 
+use crate::flats::{put_eight, unpack_flats};
 use crate::reading::read_cell;
 use crate::stripe::Stripe;
 use std::simd::prelude::*;
@@ -65,14 +66,23 @@ fn unpack_band(
 {
     let mut cell = [0u8; 32];
     let mut at = from;
-    for i in 0..wide.div_ceil(8) {
-        match read_cell(packed, at, &mut cell) {
-            None => return None,
-            Some(taken) => {
-                let size = (wide - 8 * i).min(8);
-                put_cell(&cell, lines, stripe.line, stripe.first + 8 * i, size, count);
-                at += taken;
-            }
+    let mut i = 0;
+    'cells: while i < wide.div_ceil(8) {
+        let Some(taken) = read_cell(packed, at, &mut cell) else {
+            return None;
+        };
+        let size = (wide - 8 * i).min(8);
+        put_cell(&cell, lines, stripe.line, stripe.first + 8 * i, size, count);
+        at += taken;
+        i += 1;
+        if taken == 3 && count == 4 && i < wide / 8 {
+            let rest = Stripe {
+                line: stripe.line,
+                first: stripe.first + 8 * i,
+            };
+            let flats = unpack_flats(packed, at, lines, rest, wide / 8 - i);
+            at += 3 * flats;
+            i += flats;
         }
     }
     Some(at)
@@ -117,9 +127,13 @@ fn put_whole_line(cell: &[u8], lines: &mut [u8], wide: usize, from: usize, y: us
     requires inside { from + 8 ≤ wide }
     ensures { LinePut cell.now lines.old lines.new wide from 8 y }
 {
-    let to = y * wide + from;
-    let line = u8x8::from_slice(&cell[8 * y..8 * y + 8]);
-    line.copy_to_slice(&mut lines[to..to + 8]);
+    put_eight(
+        u8x8::from_slice(&cell[8 * y..8 * y + 8]),
+        lines,
+        wide,
+        from,
+        y,
+    );
 }
 
 /// A cell that is cut.
