@@ -8,3 +8,10 @@ mod planar;
 mod request;
 mod stream;
 mod window;
+
+use std::process::Abort;
+
+/// Ends the test where an answer is not that of its case.
+fn expect(rt: &impl Abort, case: usize, is_right: bool) {
+    assert!(rt; is_right, "case {case}");
+}

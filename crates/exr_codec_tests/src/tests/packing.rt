@@ -1,103 +1,133 @@
 //! Words that are packed and read again: the 25 bytes of 512 words 0, the greatest word, runs at the border where they
 //! begin to pay, and weights that make long codes.
 
+use super::expect;
+use exr_base::NoMemory;
 use exr_codes::read_table;
 use exr_huffman::unpack;
 use exr_packing::pack;
 use std::alloc::Global;
 use std::test::Fail;
 
-/// A word, how often it occurs, and the block's data bits, their number first. The table has the word and the run symbol
-/// with codes of one bit. A run takes ten bits: it is written for eleven codes of one bit, and not for ten.
-const RUNS: [(u16, usize, u8, &[u8]); 5] = [
-    (0, 512, 20, &[0x7f, 0xdf, 0xf0]),
-    (65535, 256, 10, &[0x7f, 0xc0]),
-    (65535, 255, 10, &[0x7f, 0x80]),
-    (0, 11, 11, &[0x00, 0x00]),
-    (0, 12, 10, &[0x42, 0xc0]),
+/// A word, how often it occurs, and its block: the word and the one after it, the number of bits, and the table, where the
+/// word and the run symbol have codes of one bit; then the bits. A run takes ten bits: it is written for eleven codes of one
+/// bit, and not for ten.
+const RUNS: &[(u16, usize, &[u8])] = &[
+    (
+        0,
+        512,
+        &[
+            0, 0, 0, 0, 1, 0, 0, 0, 2, 0, 0, 0, 20, 0, 0, 0, 0, 0, 0, 0, 0x04, 0x10, 0x7f, 0xdf,
+            0xf0,
+        ],
+    ),
+    (
+        65535,
+        256,
+        &[
+            255, 255, 0, 0, 0, 0, 1, 0, 2, 0, 0, 0, 10, 0, 0, 0, 0, 0, 0, 0, 0x04, 0x10, 0x7f, 0xc0,
+        ],
+    ),
+    (
+        65535,
+        255,
+        &[
+            255, 255, 0, 0, 0, 0, 1, 0, 2, 0, 0, 0, 10, 0, 0, 0, 0, 0, 0, 0, 0x04, 0x10, 0x7f, 0x80,
+        ],
+    ),
+    (
+        0,
+        11,
+        &[
+            0, 0, 0, 0, 1, 0, 0, 0, 2, 0, 0, 0, 11, 0, 0, 0, 0, 0, 0, 0, 0x04, 0x10, 0x00, 0x00,
+        ],
+    ),
+    (
+        0,
+        12,
+        &[
+            0, 0, 0, 0, 1, 0, 0, 0, 2, 0, 0, 0, 10, 0, 0, 0, 0, 0, 0, 0, 0x04, 0x10, 0x42, 0xc0,
+        ],
+    ),
 ];
 
-fn is_read_again(alloc: Global, words: &[u16], packed: &[u8]) -> Result<bool, Fail> {
-    if words.is_empty() || words.len() > 1 << 25 {
-        return Ok(false);
-    }
-    let again = unpack(alloc, packed, words.len())?;
-    Ok(again.as_slice() == words)
-}
-
-fn packed_of(alloc: Global, words: &[u16]) -> Result<Vec<u8>, Fail> {
+fn packed_of(alloc: Global, words: &[u16]) -> Result<Vec<u8>, NoMemory> {
     if words.is_empty() || words.len() > 1 << 25 {
         return Ok(Vec::new(alloc));
     }
-    Ok(pack(alloc, words)?)
+    pack(alloc, words)
 }
 
-/// The block of copies of one word, with these data bits.
-fn block_of(alloc: Global, word: u16, bits: u8, spelled: &[u8]) -> Result<Vec<u8>, Fail> {
-    let [low, high] = word.to_le_bytes();
-    let [a, b, c, d] = (u32::from(word) + 1).to_le_bytes();
-    let mut block = Vec::from_slice(
-        alloc,
-        &[
-            low, high, 0, 0, a, b, c, d, 2, 0, 0, 0, bits, 0, 0, 0, 0, 0, 0, 0, 0x04, 0x10,
-        ],
-    )?;
-    block.extend_from_slice(spelled)?;
-    Ok(block)
+/// Whether packed data gives these words.
+fn gives(alloc: Global, words: &[u16], packed: &[u8]) -> bool {
+    if words.is_empty() || words.len() > 1 << 25 {
+        return false;
+    }
+    match unpack(alloc, packed, words.len()) {
+        Ok(again) => again.as_slice() == words,
+        Err(_) => false,
+    }
 }
 
 #[test]
 fn runs(rt: HostRuntime) -> Result<(), Fail> {
-    for (word, count, bits, spelled) in RUNS {
-        let words = vec![in rt.alloc(); word; count]?;
+    for (case, (word, count, block)) in RUNS.iter().enumerate() {
+        let words = vec![in rt.alloc(); *word; *count]?;
         let packed = packed_of(rt.alloc(), &words)?;
-        let expected = block_of(rt.alloc(), word, bits, spelled)?;
-        assert_eq!(rt; packed.as_slice(), expected.as_slice());
-        assert!(rt; is_read_again(rt.alloc(), &words, &packed)?);
+        let is_right = packed.as_slice() == *block && gives(rt.alloc(), &words, &packed);
+        expect(&rt, case, is_right);
     }
     Ok(())
 }
 
+/// Lists of few words.
+const FEW: &[&[u16]] = &[&[0, 65535, 1, 65535, 65535, 7], &[7]];
+
 #[test]
 fn few_words(rt: HostRuntime) -> Result<(), Fail> {
-    let lists: [&[u16]; 2] = [&[0, 65535, 1, 65535, 65535, 7], &[7]];
-    for words in lists {
+    for (case, words) in FEW.iter().enumerate() {
         let packed = packed_of(rt.alloc(), words)?;
-        assert!(rt; is_read_again(rt.alloc(), words, &packed)?);
+        expect(&rt, case, gives(rt.alloc(), words, &packed));
     }
     Ok(())
 }
 
 /// Weights 1, 1, 2, 3, 5 and so on up to 75,025, so that trees are merged one by one.
-fn words_of_falling_weight(alloc: Global) -> Result<Vec<u16>, Fail> {
+fn words_of_falling_weight(alloc: Global) -> Result<Vec<u16>, NoMemory> {
     let mut words = Vec::new(alloc);
     let mut weight = 1usize;
     let mut before = 0usize;
     for word in 0..25u16 {
-        let longer = words.len().min(1 << 20) + weight.min(1 << 20);
-        words.resize(longer, word)?;
-        let next = weight.min(1 << 20) + before.min(1 << 20);
+        words.resize(words.len().saturating_add(weight), word)?;
+        let next = weight.saturating_add(before);
         before = weight;
         weight = next;
     }
     Ok(words)
 }
 
+/// The lengths of their codes and of the run symbol's.
+const LENGTHS: &[u8] = &[
+    25, 25, 23, 22, 21, 20, 19, 18, 17, 16, 15, 14, 13, 12, 11, 10, 9, 8, 7, 6, 5, 4, 3, 2, 1, 24,
+];
+
+/// Whether a block has these lengths of codes in its table of 20 bytes.
+fn has_lengths(alloc: Global, packed: &[u8]) -> Result<bool, NoMemory> {
+    let Some(table) = packed.get(20..40) else {
+        return Ok(false);
+    };
+    match read_table(alloc, table, 26)? {
+        Some(lengths) => Ok(lengths.as_slice() == LENGTHS),
+        None => Ok(false),
+    }
+}
+
 #[test]
 fn long_codes(rt: HostRuntime) -> Result<(), Fail> {
     let words = words_of_falling_weight(rt.alloc())?;
-    assert_eq!(rt; words.len(), 196_417);
+    expect(&rt, 0, words.len() == 196_417);
     let packed = packed_of(rt.alloc(), &words)?;
-    assert!(rt; is_read_again(rt.alloc(), &words, &packed)?);
-    let table = packed.get(20..40).ok_or("no table")?;
-    let lengths = read_table(rt.alloc(), table, 26)?.ok_or("no lengths")?;
-    assert_eq!(rt;
-        lengths.as_slice(),
-        [
-            25, 25, 23, 22, 21, 20, 19, 18, 17, 16, 15, 14, 13, 12, 11, 10, 9, 8, 7, 6, 5, 4, 3, 2,
-            1, 24
-        ]
-        .as_slice()
-    );
+    expect(&rt, 1, gives(rt.alloc(), &words, &packed));
+    expect(&rt, 2, has_lengths(rt.alloc(), &packed)?);
     Ok(())
 }

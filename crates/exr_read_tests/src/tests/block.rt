@@ -3,9 +3,10 @@
 
 ghost use Rattle.exr_judge.specs.Picture.{IsPicture};
 
+use super::expect;
 use super::heads::head_of;
 use exr_b44::B44Fault;
-use exr_base::{Channel, Kind, Method, Name, Refusal, Shape};
+use exr_base::{Box2i, Channel, Kind, Method, Name, NoMemory, Refusal, Shape};
 use exr_block::{
     Block, Body, ChunkFault, can_pack, fits, is_size, pack_block, sizes_fit, unpack_block,
 };
@@ -287,8 +288,13 @@ fn head_under(alloc: Global, (channels, method, window): Form) -> Result<FileHea
     head_of(alloc, &picture)
 }
 
-/// The raw content of data of a part's data window, or its fault.
-fn unpacked(alloc: Global, part: &Header, data: &[u8]) -> Result<Result<Vec<u8>, ChunkFault>, Fail>
+/// Whether this is the raw content of data of a part's data window, or its fault.
+fn is_unpacked(
+    alloc: Global,
+    part: &Header,
+    data: &[u8],
+    wanted: Result<&[u8], ChunkFault>,
+) -> Result<bool, NoMemory>
     requires { IsPicture part.now }
 {
     let shape = Shape {
@@ -297,37 +303,36 @@ fn unpacked(alloc: Global, part: &Header, data: &[u8]) -> Result<Result<Vec<u8>,
     };
     let body = Body::Flat(data.to_vec(alloc)?);
     if !sizes_fit(part.method(), &shape, &body) {
-        return Ok(Err(ChunkFault::WrongSize));
+        return Ok(wanted == Err(ChunkFault::WrongSize));
     }
     if shape.raw_size() > 1 << 26 {
-        return Err("too large a region".into());
+        return Ok(false);
     }
     match unpack_block(alloc, part.method(), &shape, body, Vec::new(alloc)) {
-        Ok(Block::Flat(raw)) => Ok(Ok(raw)),
-        Ok(Block::Deep(_)) => Err("deep content".into()),
-        Err(Refusal::Fault(fault)) => Ok(Err(fault)),
-        Err(Refusal::NoMemory) => Err("no memory".into()),
+        Ok(Block::Flat(raw)) => Ok(wanted == Ok(raw.as_slice())),
+        Err(Refusal::Fault(fault)) => Ok(wanted == Err(fault)),
+        _ => Ok(false),
     }
 }
 
-/// Whether bytes or a fault are those that are wanted.
-fn is_same(got: &Result<Vec<u8>, ChunkFault>, wanted: Result<&[u8], ChunkFault>) -> bool {
-    match (got, wanted) {
-        (Ok(got), Ok(wanted)) => got.as_slice() == wanted,
-        (Err(got), Err(wanted)) => *got == wanted,
-        _ => false,
+/// The same of a part of these channels, this method and this data window.
+fn unpacks(
+    alloc: Global,
+    form: Form,
+    data: &[u8],
+    wanted: Result<&[u8], ChunkFault>,
+) -> Result<bool, Fail> {
+    let head = head_under(alloc, form)?;
+    match head.parts() {
+        [part] => Ok(is_unpacked(alloc, part, data, wanted)?),
+        _ => Ok(false),
     }
 }
 
 #[test]
 fn data_under_each_method(rt: HostRuntime) -> Result<(), Fail> {
-    for (form, data, wanted) in UNPACKED {
-        let head = head_under(rt.alloc(), *form)?;
-        let [part] = head.parts() else {
-            return Err("one part".into());
-        };
-        let got = unpacked(rt.alloc(), part, data)?;
-        assert!(rt; is_same(&got, *wanted), "{got:?} {wanted:?}");
+    for (case, (form, data, wanted)) in UNPACKED.iter().enumerate() {
+        expect(&rt, case, unpacks(rt.alloc(), *form, data, *wanted)?);
     }
     Ok(())
 }
@@ -388,7 +393,7 @@ const PACKED: &[Packed] = &[
 ];
 
 /// The data that is stored for raw content of a part's data window, if it can be stored.
-fn packed(alloc: Global, part: &Header, raw: &[u8]) -> Result<Option<Vec<u8>>, Fail>
+fn packed(alloc: Global, part: &Header, raw: &[u8]) -> Result<Option<Body>, NoMemory>
     requires { IsPicture part.now }
 {
     let shape = Shape {
@@ -400,26 +405,38 @@ fn packed(alloc: Global, part: &Header, raw: &[u8]) -> Result<Option<Vec<u8>>, F
         return Ok(None);
     }
     if shape.raw_size() > 1 << 26 {
-        return Err("too large a region".into());
+        return Err(NoMemory);
     }
-    match pack_block(alloc, part.method(), &shape, &block)? {
-        Body::Flat(data) => Ok(Some(data)),
-        Body::Deep(_) => Err("deep data".into()),
+    Ok(Some(pack_block(alloc, part.method(), &shape, &block)?))
+}
+
+/// Whether this is stored for raw content, or nothing can be.
+fn packs(
+    alloc: Global,
+    form: Form,
+    raw: &[u8],
+    wanted: Option<&(&[u8], &[u8])>,
+) -> Result<bool, Fail> {
+    let head = head_under(alloc, form)?;
+    let [part] = head.parts() else {
+        return Ok(false);
+    };
+    match packed(alloc, part, raw)? {
+        Some(Body::Flat(data)) => match wanted {
+            Some((wanted, _)) => Ok(data.as_slice() == *wanted),
+            None => Ok(false),
+        },
+        Some(Body::Deep(_)) => Ok(false),
+        None => Ok(wanted.is_none()),
     }
 }
 
 #[test]
 fn content_under_each_method(rt: HostRuntime) -> Result<(), Fail> {
-    for (form, raw, wanted) in PACKED {
-        let head = head_under(rt.alloc(), *form)?;
-        let [part] = head.parts() else {
-            return Err("one part".into());
-        };
-        let got = packed(rt.alloc(), part, raw)?;
-        assert_eq!(rt; got.as_deref(), wanted.map(|(data, _)| data));
+    for (case, (form, raw, wanted)) in PACKED.iter().enumerate() {
+        expect(&rt, case, packs(rt.alloc(), *form, raw, wanted.as_ref())?);
         if let Some((data, again)) = wanted {
-            let got = unpacked(rt.alloc(), part, data)?;
-            assert!(rt; is_same(&got, Ok(*again)), "{got:?}");
+            expect(&rt, case, unpacks(rt.alloc(), *form, data, Ok(*again))?);
         }
     }
     Ok(())
@@ -427,7 +444,7 @@ fn content_under_each_method(rt: HostRuntime) -> Result<(), Fail> {
 
 /// A method, and whether it can be written for channels under B44 with a pLinear byte of 0 and with another, and in a deep
 /// part.
-const WRITTEN: [(Method, bool, bool, bool); 10] = [
+const WRITTEN: &[(Method, bool, bool, bool)] = &[
     (Method::No, true, true, true),
     (Method::Rle, true, true, true),
     (Method::Zips, false, false, false),
@@ -441,39 +458,47 @@ const WRITTEN: [(Method, bool, bool, bool); 10] = [
 ];
 
 /// A method, and whether data of 0, 3, 4 and 5 bytes can be that of a chunk of 4 raw bytes.
-const SIZES: [(Method, [bool; 4]); 3] = [
-    (Method::No, [false, false, true, false]),
-    (Method::Rle, [true, true, true, false]),
-    (Method::Zip, [true, true, true, false]),
+const SIZES: &[(Method, bool, bool, bool, bool)] = &[
+    (Method::No, false, false, true, false),
+    (Method::Rle, true, true, true, false),
+    (Method::Zip, true, true, true, false),
 ];
 
+/// One pixel.
+const REGION: Box2i = Box2i {
+    x0: 0,
+    y0: 0,
+    x1: 0,
+    y1: 0,
+};
+
+/// Whether a method can be written for a HALF channel with this pLinear byte, in a deep part or in another.
+fn can(method: Method, linear: u8, is_deep: bool) -> Option<bool> {
+    let channels = [Channel {
+        name: Name::new(b"Y")?,
+        kind: Kind::Half,
+        linear,
+        xs: 1,
+        ys: 1,
+    }];
+    let shape = Shape {
+        channels: &channels,
+        region: REGION,
+    };
+    Some(can_pack(method, &shape, is_deep))
+}
+
 #[test]
-fn methods_and_sizes(rt: HostRuntime) -> Result<(), Fail> {
-    let region = head_of(rt.alloc(), &ONE_PIXEL)?
-        .parts()
-        .first()
-        .ok_or("a part")?
-        .window();
-    for (method, plain, linear, deep) in WRITTEN {
-        for (byte, is_deep, wanted) in [(0, false, plain), (1, false, linear), (0, true, deep)] {
-            let channels = [Channel {
-                name: Name::new(b"Y").ok_or("a name")?,
-                kind: Kind::Half,
-                linear: byte,
-                xs: 1,
-                ys: 1,
-            }];
-            let shape = Shape {
-                channels: &channels,
-                region,
-            };
-            assert_eq!(rt; can_pack(method, &shape, is_deep), wanted, "{method:?}");
-        }
+fn methods_and_sizes(rt: HostRuntime) {
+    for (case, (method, plain, linear, deep)) in WRITTEN.iter().enumerate() {
+        expect(&rt, case, can(*method, 0, false) == Some(*plain));
+        expect(&rt, case, can(*method, 1, false) == Some(*linear));
+        expect(&rt, case, can(*method, 0, true) == Some(*deep));
     }
-    for (method, wanted) in SIZES {
-        for (size, wanted) in [0, 3, 4, 5].into_iter().zip(wanted) {
-            assert_eq!(rt; is_size(method, 4, size), wanted, "{method:?} {size}");
-        }
+    for (case, (method, none, three, four, five)) in SIZES.iter().enumerate() {
+        expect(&rt, case, is_size(*method, 4, 0) == *none);
+        expect(&rt, case, is_size(*method, 4, 3) == *three);
+        expect(&rt, case, is_size(*method, 4, 4) == *four);
+        expect(&rt, case, is_size(*method, 4, 5) == *five);
     }
-    Ok(())
 }

@@ -3,7 +3,9 @@
 
 ghost use Rattle.exr_judge.specs.Picture.{IsPicture};
 
-use exr_base::{Method, Refusal, Shape};
+use super::expect;
+use super::stream::{Fetched, source_of, twice};
+use exr_base::{Method, NoMemory, Refusal, Shape};
 use exr_block::{
     Block, Body, ChunkFault, DeepBlock, DeepFault, DeepPacked, can_pack, fits, pack_block,
     raw_bytes, sizes_fit, unpack_block,
@@ -12,10 +14,8 @@ use exr_fixtures::{
     ChannelSpec, ONE_PIXEL, Picture, Y, file_of, flagged_head, put_attribute, put_string,
 };
 use exr_header::{Header, read_head};
-use exr_outside::MemSource;
-use exr_stream::{FetchFault, OpenStop, Stream};
+use exr_stream::FetchFault;
 use std::alloc::Global;
-use std::marker::Brand;
 use std::test::Fail;
 
 /// Bit 11 of the version word: the file has a deep part.
@@ -46,7 +46,7 @@ const SAMPLES: &[u8] = &[
 ];
 
 /// The head of a file of the two pixels in deep scan lines, under a method.
-fn deep_head(alloc: Global, method: u8) -> Result<Vec<u8>, Fail> {
+fn deep_head(alloc: Global, method: u8) -> Result<Vec<u8>, NoMemory> {
     let mut more = Vec::new(alloc);
     put_string(&mut more, b"type", b"deepscanline")?;
     put_attribute(&mut more, b"version", b"int", &[1, 0, 0, 0])?;
@@ -54,7 +54,7 @@ fn deep_head(alloc: Global, method: u8) -> Result<Vec<u8>, Fail> {
         method,
         ..TWO_PIXELS
     };
-    Ok(flagged_head(alloc, DEEP, &picture, &more)?)
+    flagged_head(alloc, DEEP, &picture, &more)
 }
 
 /// A chunk of the file: the line and the three sizes that its fields say, and how many bytes of the file are cut off at its
@@ -235,7 +235,7 @@ const CASES: &[Case] = &[
 ];
 
 /// The bytes of a case's file.
-fn bytes_of(alloc: Global, case: &Case) -> Result<Vec<u8>, Fail> {
+fn bytes_of(alloc: Global, case: &Case) -> Result<Vec<u8>, NoMemory> {
     let mut chunk = case.line.to_le_bytes().to_vec(alloc)?;
     for size in case.sizes {
         chunk.extend_from_slice(&size.to_le_bytes())?;
@@ -250,40 +250,6 @@ fn bytes_of(alloc: Global, case: &Case) -> Result<Vec<u8>, Fail> {
     Ok(bytes)
 }
 
-/// What fetching the first chunk of a stream answers.
-fn first_chunk(
-    alloc: Global,
-    stream: &mut Stream<Brand, MemSource>,
-) -> Result<Result<DeepPacked, FetchFault>, Fail> {
-    if stream.head().parts().is_empty() || stream.chunk_count(0) == 0 {
-        return Err("no chunk".into());
-    }
-    match stream.fetch(alloc, 0, 0) {
-        Ok(Body::Deep(packed)) => Ok(Ok(packed)),
-        Ok(Body::Flat(_)) => Err("flat data".into()),
-        Err(Refusal::Fault(fault)) => Ok(Err(fault)),
-        Err(Refusal::NoMemory) => Err("no memory".into()),
-    }
-}
-
-/// What fetching the first chunk of a file answers.
-fn fetched(alloc: Global, bytes: Vec<u8>) -> Result<Result<DeepPacked, FetchFault>, Fail> {
-    let source = MemSource::new(alloc, "a", bytes, Vec::new(alloc), Vec::new(alloc))?;
-    match Stream::<Brand, MemSource>::open(alloc, source) {
-        Ok(mut stream) => {
-            let got = first_chunk(alloc, &mut stream);
-            let _source = stream.into_source();
-            got
-        }
-        Err(
-            OpenStop {
-                source: _source,
-                cause: _cause,
-            },
-        ) => Err("not opened".into()),
-    }
-}
-
 /// Whether data is that of a case: the table and the samples, as many bytes as the sizes say.
 fn is_data(got: &DeepPacked, sizes: [u64; 3]) -> bool {
     let [table, samples, unpacked] = sizes;
@@ -295,19 +261,27 @@ fn is_data(got: &DeepPacked, sizes: [u64; 3]) -> bool {
 }
 
 /// Whether a fetch answers what a case wants.
-fn is_answer(got: &Result<DeepPacked, FetchFault>, case: &Case) -> bool {
-    match (got, case.fault) {
-        (Ok(packed), None) => is_data(packed, case.sizes),
-        (Err(fault), Some(wanted)) => *fault == FetchFault::Chunk(wanted),
+fn is_answer(got: &Fetched, case: &Case) -> bool {
+    match got {
+        Ok(Body::Deep(packed)) => case.fault.is_none() && is_data(packed, case.sizes),
+        Err(Refusal::Fault(FetchFault::Chunk(fault))) => case.fault == Some(*fault),
         _ => false,
+    }
+}
+
+/// Whether the chunk of a case's file answers what the case wants.
+fn answers(alloc: Global, case: &Case) -> Result<bool, NoMemory> {
+    let source = source_of(alloc, bytes_of(alloc, case)?, &[])?;
+    match twice(alloc, source, (0, 0)) {
+        Some((first, second, _source)) => Ok(is_answer(&first, case) && is_answer(&second, case)),
+        None => Ok(false),
     }
 }
 
 #[test]
 fn deep_chunks_of_edited_files(rt: HostRuntime) -> Result<(), Fail> {
-    for case in CASES {
-        let got = fetched(rt.alloc(), bytes_of(rt.alloc(), case)?)?;
-        assert!(rt; is_answer(&got, case), "{got:?}");
+    for (number, case) in CASES.iter().enumerate() {
+        expect(&rt, number, answers(rt.alloc(), case)?);
     }
     Ok(())
 }
@@ -408,21 +382,13 @@ const UNPACKED: &[Data] = &[
     },
 ];
 
-/// The data of a case.
-fn packed_of(alloc: Global, case: &Data) -> Result<DeepPacked, Fail> {
-    Ok(DeepPacked {
-        table: case.table.to_vec(alloc)?,
-        samples: case.samples.to_vec(alloc)?,
-        unpacked: case.unpacked,
-    })
+/// Whether content is one sample and two.
+fn is_content(got: &DeepBlock) -> bool {
+    got.counts.as_slice() == [1, 2].as_slice() && got.samples.as_slice() == SAMPLES
 }
 
-/// The content of deep data of a part's data window, or its fault.
-fn unpacked(
-    alloc: Global,
-    part: &Header,
-    packed: DeepPacked,
-) -> Result<Result<DeepBlock, ChunkFault>, Fail>
+/// Whether data of a part's data window has this fault, or without one stands for one sample and two.
+fn is_unpacked(alloc: Global, part: &Header, packed: DeepPacked, wanted: Option<ChunkFault>) -> bool
     requires { IsPicture part.now }
 {
     let shape = Shape {
@@ -431,49 +397,42 @@ fn unpacked(
     };
     let body = Body::Deep(packed);
     if !sizes_fit(part.method(), &shape, &body) {
-        return Ok(Err(ChunkFault::WrongSize));
+        return wanted == WRONG;
     }
     if raw_bytes(&shape, true) > 1 << 26 {
-        return Err("too large a region".into());
+        return false;
     }
     match unpack_block(alloc, part.method(), &shape, body, Vec::new(alloc)) {
-        Ok(Block::Deep(content)) => Ok(Ok(content)),
-        Ok(Block::Flat(_)) => Err("flat content".into()),
-        Err(Refusal::Fault(fault)) => Ok(Err(fault)),
-        Err(Refusal::NoMemory) => Err("no memory".into()),
+        Ok(Block::Deep(content)) => wanted.is_none() && is_content(&content),
+        Err(Refusal::Fault(fault)) => wanted == Some(fault),
+        _ => false,
     }
 }
 
-/// Whether content is one sample and two.
-fn is_content(got: &DeepBlock) -> bool {
-    got.counts.as_slice() == [1, 2].as_slice() && got.samples.as_slice() == SAMPLES
-}
-
-/// Whether an answer is what a case wants.
-fn is_unpacked(got: &Result<DeepBlock, ChunkFault>, wanted: Option<ChunkFault>) -> bool {
-    match (got, wanted) {
-        (Ok(content), None) => is_content(content),
-        (Err(fault), Some(wanted)) => *fault == wanted,
-        _ => false,
+/// Whether the data of a case is unpacked as the case says.
+fn unpacks(alloc: Global, case: &Data) -> Result<bool, Fail> {
+    let (head, _) = read_head(alloc, &deep_head(alloc, case.method)?)?;
+    let packed = DeepPacked {
+        table: case.table.to_vec(alloc)?,
+        samples: case.samples.to_vec(alloc)?,
+        unpacked: case.unpacked,
+    };
+    match head.parts() {
+        [part] => Ok(is_unpacked(alloc, part, packed, case.fault)),
+        _ => Ok(false),
     }
 }
 
 #[test]
 fn deep_data_under_each_method(rt: HostRuntime) -> Result<(), Fail> {
-    let alloc = rt.alloc();
-    for case in UNPACKED {
-        let (head, _) = read_head(alloc, &deep_head(alloc, case.method)?)?;
-        let [part] = head.parts() else {
-            return Err("one part".into());
-        };
-        let got = unpacked(alloc, part, packed_of(alloc, case)?)?;
-        assert!(rt; is_unpacked(&got, case.fault), "{got:?}");
+    for (number, case) in UNPACKED.iter().enumerate() {
+        expect(&rt, number, unpacks(rt.alloc(), case)?);
     }
     Ok(())
 }
 
 /// The data that is stored for content of a part's data window, if it can be stored.
-fn packed(alloc: Global, part: &Header, content: DeepBlock) -> Result<Option<DeepPacked>, Fail>
+fn packed(alloc: Global, part: &Header, content: DeepBlock) -> Result<Option<Body>, NoMemory>
     requires { IsPicture part.now }
 {
     let shape = Shape {
@@ -485,16 +444,25 @@ fn packed(alloc: Global, part: &Header, content: DeepBlock) -> Result<Option<Dee
         return Ok(None);
     }
     if raw_bytes(&shape, true) > 1 << 26 {
-        return Err("too large a region".into());
+        return Err(NoMemory);
     }
-    match pack_block(alloc, part.method(), &shape, &block)? {
-        Body::Deep(packed) => Ok(Some(packed)),
-        Body::Flat(_) => Err("flat data".into()),
-    }
+    Ok(Some(pack_block(alloc, part.method(), &shape, &block)?))
+}
+
+/// Whether data has this table and the samples, and stands for one sample and two.
+fn is_packed(alloc: Global, part: &Header, packed: DeepPacked, table: &[u8]) -> bool
+    requires { IsPicture part.now }
+{
+    packed.table.as_slice() == table
+        && packed.unpacked == 18
+        && packed.samples.as_slice() == SAMPLES
+        && is_unpacked(alloc, part, packed, None)
 }
 
 /// A method, the number of samples of the second pixel, and the table that is stored, if the content can be stored.
-const PACKED: &[(u8, u32, Option<&[u8]>)] = &[
+type Stored = (u8, u32, Option<&'static [u8]>);
+
+const PACKED: &[Stored] = &[
     (0, 2, Some(TABLE)),
     (1, 2, Some(TABLE_RUNS)),
     (2, 2, None),
@@ -503,25 +471,30 @@ const PACKED: &[(u8, u32, Option<&[u8]>)] = &[
     (1, 3, None),
 ];
 
+/// Whether content of one sample and so many is stored as a case says.
+fn packs(alloc: Global, (method, count, table): Stored) -> Result<bool, Fail> {
+    let (head, _) = read_head(alloc, &deep_head(alloc, method)?)?;
+    let content = DeepBlock {
+        counts: [1, count].to_vec(alloc)?,
+        samples: SAMPLES.to_vec(alloc)?,
+    };
+    let [part] = head.parts() else {
+        return Ok(false);
+    };
+    match packed(alloc, part, content)? {
+        Some(Body::Deep(packed)) => match table {
+            Some(table) => Ok(is_packed(alloc, part, packed, table)),
+            None => Ok(false),
+        },
+        Some(Body::Flat(_)) => Ok(false),
+        None => Ok(table.is_none()),
+    }
+}
+
 #[test]
 fn deep_content_under_each_method(rt: HostRuntime) -> Result<(), Fail> {
-    let alloc = rt.alloc();
-    for (method, count, wanted) in PACKED {
-        let (head, _) = read_head(alloc, &deep_head(alloc, *method)?)?;
-        let [part] = head.parts() else {
-            return Err("one part".into());
-        };
-        let content = DeepBlock {
-            counts: [1, *count].to_vec(alloc)?,
-            samples: SAMPLES.to_vec(alloc)?,
-        };
-        let got = packed(alloc, part, content)?;
-        assert_eq!(rt; got.as_ref().map(|data| data.table.as_slice()), *wanted);
-        if let Some(data) = got {
-            assert!(rt; data.unpacked == 18 && data.samples.as_slice() == SAMPLES);
-            let again = unpacked(alloc, part, data)?;
-            assert!(rt; is_unpacked(&again, None), "{again:?}");
-        }
+    for (number, case) in PACKED.iter().enumerate() {
+        expect(&rt, number, packs(rt.alloc(), *case)?);
     }
     Ok(())
 }

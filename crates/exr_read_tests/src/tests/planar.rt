@@ -1,9 +1,13 @@
 //! Raw data regrouped channel by channel, and back: lines without samples, a pixel at the edge, channels of unlike kinds
 //! and samplings.
 
+ghost use Rattle.exr_judge.specs.Picture.{IsPicture};
+
+use super::expect;
 use super::heads::head_of;
-use exr_base::Shape;
+use exr_base::{NoMemory, Shape};
 use exr_fixtures::{ChannelSpec, ONE_PIXEL, Picture, Y};
+use exr_header::Header;
 use exr_planar::{from_planar, to_planar};
 use std::alloc::Global;
 use std::test::Fail;
@@ -85,40 +89,41 @@ const CASES: &[Case] = &[
     (&[BOTH], [-2, -2, 1, 1], b"aabbccdd", b"aabbccdd"),
 ];
 
-/// Raw data channel by channel, and that as raw data again.
-fn regrouped(alloc: Global, (channels, window, raw, _): Case) -> Result<(Vec<u8>, Vec<u8>), Fail> {
+/// Whether raw data of a part's data window is this channel by channel, and that is the raw data again.
+fn is_regrouped(alloc: Global, part: &Header, raw: &[u8], planar: &[u8]) -> Result<bool, NoMemory>
+    requires { IsPicture part.now }
+{
+    let shape = Shape {
+        channels: part.channels(),
+        region: part.window(),
+    };
+    let size = shape.raw_size();
+    if raw.len() as u64 != size || planar.len() as u64 != size {
+        return Ok(false);
+    }
+    let found = to_planar(alloc, &shape, raw)?;
+    let again = from_planar(alloc, &shape, planar)?;
+    Ok(found.as_slice() == planar && again.as_slice() == raw)
+}
+
+/// The same of a case.
+fn is_right(alloc: Global, (channels, window, raw, planar): Case) -> Result<bool, Fail> {
     let picture = Picture {
         channels,
         window,
         ..ONE_PIXEL
     };
     let head = head_of(alloc, &picture)?;
-    let [part] = head.parts() else {
-        return Err("one part".into());
-    };
-    let shape = Shape {
-        channels: part.channels(),
-        region: part.window(),
-    };
-    let size = shape.raw_size();
-    if raw.len() as u64 != size {
-        return Err("another raw size".into());
+    match head.parts() {
+        [part] => Ok(is_regrouped(alloc, part, raw, planar)?),
+        _ => Ok(false),
     }
-    let planar = to_planar(alloc, &shape, raw)?;
-    if planar.len() as u64 != size {
-        return Err("another planar size".into());
-    }
-    let again = from_planar(alloc, &shape, &planar)?;
-    Ok((planar, again))
 }
 
 #[test]
 fn channel_by_channel(rt: HostRuntime) -> Result<(), Fail> {
-    for case in CASES {
-        let (_, _, raw, wanted) = *case;
-        let (planar, again) = regrouped(rt.alloc(), *case)?;
-        assert_eq!(rt; planar.as_slice(), wanted);
-        assert_eq!(rt; again.as_slice(), raw);
+    for (number, case) in CASES.iter().enumerate() {
+        expect(&rt, number, is_right(rt.alloc(), *case)?);
     }
     Ok(())
 }

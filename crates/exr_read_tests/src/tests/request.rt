@@ -1,12 +1,11 @@
 //! Requests: the bytes of buffers and the places of slices in them, and each reason to refuse.
 
-ghost use Rattle.exr_asked.specs.Demand.{demand_of, IsModest};
-
 use super::asked::{ALL, Request, asked_of};
-use exr_base::{Kind, Refusal};
+use super::expect;
+use exr_base::{Box2i, Kind, Name, NoMemory, Refusal};
 use exr_fixtures::{ChannelSpec, ONE_PIXEL, Picture, Y, flagged_head};
-use exr_header::{FileHead, read_head};
-use exr_layout::{LayoutFault, MatchFault};
+use exr_header::read_head;
+use exr_layout::{LayoutFault, MatchFault, Plan, Run};
 use exr_request::{Arrangement, Asked, Choices, Fitted, Granted, RequestFault, Wanted, request};
 use std::alloc::Global;
 use std::test::Fail;
@@ -256,66 +255,66 @@ const CASES: &[Case] = &[
     (MIXED, PIXELS, Err(RequestFault::Mixed { slice: 1 })),
 ];
 
+/// Appends the slices of a run, whose plane begins at `base` and has rows `stride` bytes apart.
+fn put_run(
+    placed: &mut Vec<Placed>,
+    (base, stride): (u64, u64),
+    run: &Run,
+    plan: &Plan,
+) -> Result<(), NoMemory> {
+    for slice in &run.slices {
+        let number = placed.len();
+        if number >= plan.slice_count() {
+            return Err(NoMemory);
+        }
+        let place = run.at.saturating_add(slice.at);
+        placed.push((base, stride, place, run.stride, plan.channel(number)))?;
+    }
+    Ok(())
+}
+
 /// The slices of what is granted.
-fn placed_in(alloc: Global, granted: &Fitted) -> Result<Vec<Placed>, Fail> {
+fn placed_in(alloc: Global, granted: &Fitted) -> Result<Vec<Placed>, NoMemory> {
     let mut placed = Vec::new(alloc);
     for plane in granted.layout.planes() {
         for run in &plane.runs {
-            for slice in &run.slices {
-                let number = placed.len();
-                let channel = if number < granted.plan.slice_count() {
-                    granted.plan.channel(number)
-                } else {
-                    return Err("no such slice".into());
-                };
-                let place = run.at.saturating_add(slice.at);
-                placed.push((plane.base, plane.stride, place, run.stride, channel))?;
-            }
+            put_run(&mut placed, (plane.base, plane.stride), run, &granted.plan)?;
         }
     }
     Ok(placed)
 }
 
-/// What is granted of a head, or why that is refused.
-fn answer(
-    alloc: Global,
-    head: &FileHead,
-    asked: &Asked,
-) -> Result<Result<Granted, RequestFault>, Fail>
-    requires { IsModest (demand_of asked.now) }
-{
-    match request(alloc, head, asked) {
-        Ok(granted) => Ok(Ok(granted)),
-        Err(Refusal::Fault(stop)) => Ok(Err(stop)),
-        Err(Refusal::NoMemory) => Err("no memory".into()),
-    }
-}
-
-/// The same of the head of a picture under some flags of the version word, and with more attributes.
+/// What is granted of the head of a picture under some flags of the version word, and with more attributes, or why that is
+/// refused.
 fn answered(
     alloc: Global,
-    flags: u32,
-    picture: &Picture,
-    more: &[u8],
-    request: &Request,
-) -> Result<Result<Granted, RequestFault>, Fail> {
+    (flags, picture, more): (u32, &Picture, &[u8]),
+    asked: &Request,
+) -> Result<Result<Granted, Refusal<RequestFault>>, Fail> {
     let (head, _) = read_head(alloc, &flagged_head(alloc, flags, picture, more)?)?;
-    let asked = asked_of(alloc, request)?;
-    answer(alloc, &head, &asked)
+    let asked = asked_of(alloc, asked)?;
+    Ok(request(alloc, &head, &asked))
+}
+
+/// Whether a case is answered as it says.
+fn is_right(alloc: Global, (picture, asked, wanted): &Case) -> Result<bool, Fail> {
+    match answered(alloc, (0, picture, b""), asked)? {
+        Ok(Granted::Flat(granted)) => match wanted {
+            Ok((bytes, slices)) => Ok(
+                granted.layout.buffer() == *bytes
+                    && placed_in(alloc, &granted)?.as_slice() == *slices,
+            ),
+            Err(_) => Ok(false),
+        },
+        Err(Refusal::Fault(fault)) => Ok(wanted.err() == Some(fault)),
+        _ => Ok(false),
+    }
 }
 
 #[test]
 fn answers(rt: HostRuntime) -> Result<(), Fail> {
-    let alloc = rt.alloc();
-    for (picture, request, wanted) in CASES {
-        match (answered(alloc, 0, picture, b"", request)?, wanted) {
-            (Ok(Granted::Flat(granted)), Ok((bytes, slices))) => {
-                assert_eq!(rt; granted.layout.buffer(), *bytes);
-                assert_eq!(rt; placed_in(alloc, &granted)?.as_slice(), *slices);
-            }
-            (Err(stop), Err(wanted)) => assert_eq!(rt; stop, *wanted),
-            _ => return Err("another answer".into()),
-        }
+    for (number, case) in CASES.iter().enumerate() {
+        expect(&rt, number, is_right(rt.alloc(), case)?);
     }
     Ok(())
 }
@@ -326,15 +325,23 @@ const DEEP: (u32, &[u8]) = (
     b"type\0string\0\x0c\0\0\0deepscanlineversion\0int\0\x04\0\0\0\x01\0\0\0",
 );
 
+/// One pixel.
+const PIXEL: Box2i = Box2i {
+    x0: 0,
+    y0: 0,
+    x1: 0,
+    y1: 0,
+};
+
 /// What is asked of a deep part, and its window or why it is refused.
-const OF_DEEP: &[(Request, Result<[i32; 4], RequestFault>)] = &[
-    (ALL, Ok([0, 0, 0, 0])),
+const OF_DEEP: &[(Request, Result<Box2i, RequestFault>)] = &[
+    (ALL, Ok(PIXEL)),
     (
         Request {
             window: Some([0, 0, 0, 0]),
             ..ALL
         },
-        Ok([0, 0, 0, 0]),
+        Ok(PIXEL),
     ),
     (
         Request {
@@ -380,31 +387,36 @@ const OF_DEEP: &[(Request, Result<[i32; 4], RequestFault>)] = &[
 #[test]
 fn deep_parts(rt: HostRuntime) -> Result<(), Fail> {
     let (flags, more) = DEEP;
-    for (request, wanted) in OF_DEEP {
-        match (
-            answered(rt.alloc(), flags, &ONE_PIXEL, more, request)?,
-            wanted,
-        ) {
-            (Ok(Granted::Deep(window)), Ok([x0, y0, x1, y1])) => {
-                assert!(rt; (window.x0, window.y0, window.x1, window.y1) == (*x0, *y0, *x1, *y1));
-            }
-            (Err(fault), Err(wanted)) => assert_eq!(rt; fault, *wanted),
-            _ => return Err("another answer".into()),
-        }
+    for (number, (asked, wanted)) in OF_DEEP.iter().enumerate() {
+        let is_right = match answered(rt.alloc(), (flags, &ONE_PIXEL, more), asked)? {
+            Ok(Granted::Deep(window)) => *wanted == Ok(window),
+            Err(Refusal::Fault(fault)) => *wanted == Err(fault),
+            _ => false,
+        };
+        expect(&rt, number, is_right);
     }
     Ok(())
 }
 
+/// Whether a part, padding and a fill are asked for, and samples in planes or in lines, and whether a deep part does not
+/// take that.
+fn asks(asked: &Asked, numbers: (u32, u32, u32), layout: Arrangement, arranged: bool) -> bool {
+    let (part, pad, fill) = numbers;
+    asked.part == part
+        && asked.pad == pad
+        && asked.fill == fill
+        && asked.layout == layout
+        && asked.arranged == arranged
+        && asked.window.is_none()
+}
+
 #[test]
-fn choices_and_numbers(rt: HostRuntime) -> Result<(), Fail> {
+fn choices(rt: HostRuntime) -> Result<(), Fail> {
     let asked = Asked::new(Choices::none());
-    assert!(rt; !asked.arranged);
-    assert_eq!(rt; asked.layout, Arrangement::Planar);
-    assert_eq!(rt; asked.window, None);
-    assert!(rt; asked.channels.is_none());
-    assert_eq!(rt; (asked.part, asked.pad, asked.fill), (0, 0, 0));
+    expect(&rt, 0, asks(&asked, (0, 0, 0), Arrangement::Planar, false));
+    expect(&rt, 1, asked.channels.is_none());
     let wanted = Wanted {
-        name: exr_base::Name::new(b"Y").ok_or("a name")?,
+        name: Name::new(b"Y").ok_or("a name")?,
         kind: Some(Kind::Half),
     };
     let asked = Asked::new(Choices {
@@ -417,21 +429,30 @@ fn choices_and_numbers(rt: HostRuntime) -> Result<(), Fail> {
         byte: Some(4),
         workers: Some(5),
     });
-    assert!(rt; asked.arranged);
-    assert_eq!(rt; asked.layout, Arrangement::Lines);
-    assert_eq!(rt; asked.channels.as_ref().map(|wanted| wanted.len()), Some(1));
-    assert_eq!(rt; (asked.part, asked.pad, asked.fill), (1, 2, 3));
-    for (fault, number) in [
-        (RequestFault::NoPart, 1),
-        (RequestFault::DeepWords, 2),
-        (RequestFault::Window, 3),
-        (RequestFault::Mixed { slice: 1 }, 4),
-        (RequestFault::Layout(LayoutFault::Empty { plane: 0 }), 5),
-        (RequestFault::TooLarge, 6),
-        (RequestFault::Match(MatchFault::WindowOutside), 7),
-        (RequestFault::DeepTooLarge { index: 0 }, 11),
-    ] {
-        assert_eq!(rt; fault.number(), number);
-    }
+    expect(&rt, 2, asks(&asked, (1, 2, 3), Arrangement::Lines, true));
+    let count = match &asked.channels {
+        Some(channels) => channels.len(),
+        None => 0,
+    };
+    expect(&rt, 3, count == 1);
     Ok(())
+}
+
+/// Why a request is refused, and the number of that.
+const NUMBERS: &[(RequestFault, u8)] = &[
+    (RequestFault::NoPart, 1),
+    (RequestFault::DeepWords, 2),
+    (RequestFault::Window, 3),
+    (RequestFault::Mixed { slice: 1 }, 4),
+    (RequestFault::Layout(LayoutFault::Empty { plane: 0 }), 5),
+    (RequestFault::TooLarge, 6),
+    (RequestFault::Match(MatchFault::WindowOutside), 7),
+    (RequestFault::DeepTooLarge { index: 0 }, 11),
+];
+
+#[test]
+fn numbers(rt: HostRuntime) {
+    for (case, (fault, number)) in NUMBERS.iter().enumerate() {
+        expect(&rt, case, fault.number() == *number);
+    }
 }

@@ -4,11 +4,14 @@
 ghost use Rattle.exr_asked.specs.Demand.{demand_of, IsModest};
 
 use super::asked::{ALL, Request, asked_of};
+use super::expect;
+use super::stream::source_of;
 use exr_asked::Asked;
+use exr_base::NoMemory;
 use exr_block::ChunkFault;
 use exr_fixtures::{ONE_PIXEL, Picture, file_of, line_chunk, single_head, tile_chunk};
 use exr_layout::match_part;
-use exr_outside::{Gate, MemSource, Source, World};
+use exr_outside::{Gate, MemSource};
 use exr_reader::{ReadCause, ReadStop, Work, read_window};
 use exr_request::{Granted, request};
 use exr_stream::{OpenStop, Stream};
@@ -40,12 +43,12 @@ fn and_told(told: u64, job: u32, done: bool) -> u64 {
         .wrapping_add(if done { 3 } else { 2 })
 }
 
-/// The checksum of jobs of which each is done before the next one begins.
-fn told_of(jobs: &[u32]) -> u64 {
+/// The checksum of so many jobs from a first one on, of which each is done before the next one begins.
+fn told_of(first: u32, count: u32) -> u64 {
     let mut told = 0;
-    for job in jobs {
-        told = and_told(told, *job, false);
-        told = and_told(told, *job, true);
+    for job in first..first.saturating_add(count) {
+        told = and_told(told, job, false);
+        told = and_told(told, job, true);
     }
     told
 }
@@ -62,10 +65,10 @@ struct Outcome {
 }
 
 /// Reads what is asked of the first part of an open file.
-fn read_stream<R: Threads + Sync, W: World, S: Source>(
+fn read_stream<R: Threads + Sync>(
     rt: &R,
     alloc: Global,
-    stream: &mut Stream<W, S>,
+    stream: &mut Stream<Brand, MemSource>,
     asked: &Asked,
     round: u32,
 ) -> Result<Outcome, Fail>
@@ -88,7 +91,6 @@ fn read_stream<R: Threads + Sync, W: World, S: Source>(
     let gate = Teller {
         told: AtomicU64::new(0),
     };
-    let work = Work { workers: 1, round };
     let stop = read_window(
         rt,
         alloc,
@@ -96,7 +98,7 @@ fn read_stream<R: Threads + Sync, W: World, S: Source>(
         0,
         &granted.layout,
         &plan,
-        work,
+        Work { workers: 1, round },
         &gate,
         buffer.as_mut_slice(),
     )
@@ -118,8 +120,7 @@ fn outcome_of<R: Threads + Sync>(
     round: u32,
 ) -> Result<Outcome, Fail> {
     let asked = asked_of(alloc, request)?;
-    let fails = vec![in alloc; failing]?;
-    let source = MemSource::new(alloc, "a", bytes, Vec::new(alloc), fails)?;
+    let source = source_of(alloc, bytes, &[failing])?;
     match Stream::<Brand, MemSource>::open(alloc, source) {
         Ok(mut stream) => {
             let outcome = read_stream(rt, alloc, &mut stream, &asked, round);
@@ -133,6 +134,11 @@ fn outcome_of<R: Threads + Sync>(
             },
         ) => Err("not opened".into()),
     }
+}
+
+/// Whether reading stopped so, left these bytes, and told this.
+fn is_outcome(got: &Outcome, stop: Option<ReadStop>, buffer: &[u8], told: u64) -> bool {
+    got.stop == stop && got.buffer.as_slice() == buffer && got.told == told
 }
 
 // ---- lines
@@ -157,14 +163,14 @@ struct Case {
     failing: u64,
     /// The first and the last line that are read, counted from the first one.
     lines: (u8, u8),
-    /// The bytes after each line of the buffer.
-    pad: u16,
+    /// Whether a byte follows each line of the buffer.
+    padded: bool,
     round: u32,
     stop: Option<ReadStop>,
     /// How many lines are put.
     put: usize,
     /// How many chunks are looked at.
-    seen: usize,
+    seen: u32,
 }
 
 /// All lines, in rounds of 16.
@@ -173,7 +179,7 @@ const WHOLE: Case = Case {
     flaw: Flaw::None,
     failing: 100,
     lines: (0, 19),
-    pad: 0,
+    padded: false,
     round: 16,
     stop: None,
     put: 20,
@@ -200,7 +206,7 @@ const WRONG_PLACE: ReadCause = ReadCause::Chunk {
 /// Three lines in rounds of two, with a byte after each.
 const THREE: Case = Case {
     lines: (3, 5),
-    pad: 1,
+    padded: true,
     round: 2,
     put: 3,
     seen: 3,
@@ -209,7 +215,7 @@ const THREE: Case = Case {
 
 const FAR: i32 = 1 << 30;
 
-const CASES: [Case; 22] = [
+const CASES: &[Case] = &[
     WHOLE,
     Case { round: 1, ..WHOLE },
     Case { round: 3, ..WHOLE },
@@ -361,21 +367,21 @@ const CASES: [Case; 22] = [
 ];
 
 /// The chunk of a line, whose sample has the number of the line as its low byte.
-fn chunk_of(alloc: Global, case: &Case, number: u8) -> Result<Vec<u8>, Fail> {
+fn chunk_of(alloc: Global, case: &Case, number: u8) -> Result<Vec<u8>, NoMemory> {
     let (_, top) = case.corner;
     let line = top.wrapping_add(i32::from(number));
-    let data = [number, 0x3c];
-    Ok(match case.flaw {
+    let sample = [number, 0x3c];
+    match case.flaw {
         Flaw::Misplaced(place) if place == number => {
-            line_chunk(alloc, None, line.wrapping_add(1), &data)?
+            line_chunk(alloc, None, line.wrapping_add(1), &sample)
         }
-        Flaw::Broken(place, other) if place == number => line_chunk(alloc, None, line, other)?,
-        _ => line_chunk(alloc, None, line, &data)?,
-    })
+        Flaw::Broken(place, data) if place == number => line_chunk(alloc, None, line, data),
+        _ => line_chunk(alloc, None, line, &sample),
+    }
 }
 
 /// The file of a case.
-fn lines_of(alloc: Global, case: &Case) -> Result<Vec<u8>, Fail> {
+fn lines_of(alloc: Global, case: &Case) -> Result<Vec<u8>, NoMemory> {
     let (column, top) = case.corner;
     let picture = Picture {
         window: [column, top, column, top.wrapping_add(19)],
@@ -386,54 +392,52 @@ fn lines_of(alloc: Global, case: &Case) -> Result<Vec<u8>, Fail> {
     for number in 0..20 {
         chunks.push(chunk_of(alloc, case, number)?)?;
     }
-    Ok(file_of(alloc, &single_head(alloc, &picture, b"")?, &chunks)?)
+    file_of(alloc, &single_head(alloc, &picture, b"")?, &chunks)
 }
 
-/// The buffer of a case after reading, and the chunks that are looked at.
-fn wanted_of(alloc: Global, case: &Case) -> Result<(Vec<u8>, Vec<u32>), Fail> {
+/// The buffer of a case after reading.
+fn buffer_of(alloc: Global, case: &Case) -> Result<Vec<u8>, NoMemory> {
     let (first, last) = case.lines;
     let mut buffer = Vec::new(alloc);
-    let mut seen = Vec::new(alloc);
     for (place, number) in (first..=last).enumerate() {
-        if place < case.put {
-            buffer.extend_from_slice(&[number, 0x3c])?;
-        } else {
-            buffer.extend_from_slice(&[0xee, 0xee])?;
-        }
-        for _ in 0..case.pad {
+        let is_put = place < case.put;
+        buffer.push(if is_put { number } else { 0xee })?;
+        buffer.push(if is_put { 0x3c } else { 0xee })?;
+        if case.padded {
             buffer.push(0xee)?;
         }
-        if place < case.seen {
-            seen.push(u32::from(number))?;
-        }
     }
-    Ok((buffer, seen))
+    Ok(buffer)
+}
+
+/// What a case asks for.
+fn request_of(case: &Case) -> Request {
+    let (column, top) = case.corner;
+    let (first, last) = case.lines;
+    let first = top.wrapping_add(i32::from(first));
+    let last = top.wrapping_add(i32::from(last));
+    Request {
+        window: Some([column, first, column, last]),
+        pad: u16::from(case.padded),
+        ..ALL
+    }
+}
+
+/// Whether reading the lines of a case ends as the case says.
+fn is_read<R: Threads + Sync>(rt: &R, alloc: Global, case: &Case) -> Result<bool, Fail> {
+    // the head and the tables are read first
+    let failing = case.failing.wrapping_add(2);
+    let file = lines_of(alloc, case)?;
+    let got = outcome_of(rt, alloc, file, failing, &request_of(case), case.round)?;
+    let (first, _) = case.lines;
+    let told = told_of(u32::from(first), case.seen);
+    Ok(is_outcome(&got, case.stop, &buffer_of(alloc, case)?, told))
 }
 
 #[test]
 fn lines_in_rounds(rt: HostRuntime) -> Result<(), Fail> {
-    let alloc = rt.alloc();
     for (number, case) in CASES.iter().enumerate() {
-        let (column, top) = case.corner;
-        let (first, last) = case.lines;
-        let request = Request {
-            window: Some([
-                column,
-                top.wrapping_add(i32::from(first)),
-                column,
-                top.wrapping_add(i32::from(last)),
-            ]),
-            pad: case.pad,
-            ..ALL
-        };
-        // the head and the tables are read first
-        let failing = case.failing.wrapping_add(2);
-        let file = lines_of(alloc, case)?;
-        let got = outcome_of(&rt, alloc, file, failing, &request, case.round)?;
-        let (buffer, seen) = wanted_of(alloc, case)?;
-        assert_eq!(rt; got.stop, case.stop, "{number}");
-        assert_eq!(rt; got.buffer.as_slice(), buffer.as_slice(), "{number}");
-        assert_eq!(rt; got.told, told_of(&seen), "{number}");
+        expect(&rt, number, is_read(&rt, rt.alloc(), case)?);
     }
     Ok(())
 }
@@ -441,28 +445,34 @@ fn lines_in_rounds(rt: HostRuntime) -> Result<(), Fail> {
 // ---- tiles
 
 /// The tiles of 64 by 64 pixels of a picture of 65 by 65: their columns and rows, and how many samples they have.
-const TILES: [(u8, u8, u16); 4] = [(0, 0, 4096), (1, 0, 64), (0, 1, 64), (1, 1, 1)];
+const TILES: &[(u8, u8, u16)] = &[(0, 0, 4096), (1, 0, 64), (0, 1, 64), (1, 1, 1)];
 
-/// The file of these tiles: each sample has the number of its tile, counted row by row, as its low byte.
-fn tiles(alloc: Global) -> Result<Vec<u8>, Fail> {
-    let picture = Picture {
-        window: [0, 0, 64, 64],
-        tiles: Some((64, 64)),
-        ..ONE_PIXEL
-    };
-    let mut chunks = Vec::new(alloc);
-    for (column, row, samples) in TILES {
-        let mut data = Vec::new(alloc);
-        for _ in 0..samples {
-            data.extend_from_slice(&[tile_at(column, row), 0x3c])?;
-        }
-        let place = (u32::from(column), u32::from(row));
-        chunks.push(tile_chunk(alloc, None, place, &data)?)?;
+const IN_TILES: Picture<'static> = Picture {
+    window: [0, 0, 64, 64],
+    tiles: Some((64, 64)),
+    ..ONE_PIXEL
+};
+
+/// A tile, each of whose samples has the number of the tile as its low byte.
+fn tile_of(alloc: Global, column: u8, row: u8, samples: u16) -> Result<Vec<u8>, NoMemory> {
+    let sample = [tile_at(column, row), 0x3c];
+    let mut data = Vec::new(alloc);
+    for _ in 0..samples {
+        data.extend_from_slice(&sample)?;
     }
-    Ok(file_of(alloc, &single_head(alloc, &picture, b"")?, &chunks)?)
+    tile_chunk(alloc, None, (u32::from(column), u32::from(row)), &data)
 }
 
-/// The number of a tile.
+/// The file of these tiles.
+fn tiles(alloc: Global) -> Result<Vec<u8>, NoMemory> {
+    let mut chunks = Vec::new(alloc);
+    for (column, row, samples) in TILES {
+        chunks.push(tile_of(alloc, *column, *row, *samples)?)?;
+    }
+    file_of(alloc, &single_head(alloc, &IN_TILES, b"")?, &chunks)
+}
+
+/// The number of a tile, counted row by row.
 fn tile_at(column: u8, row: u8) -> u8 {
     match (column, row) {
         (0, 0) => 0,
@@ -472,65 +482,81 @@ fn tile_at(column: u8, row: u8) -> u8 {
     }
 }
 
+/// Appends the samples of a line from one column to another.
+fn put_line(samples: &mut Vec<u8>, y: u8, x0: u8, x1: u8) -> Result<(), NoMemory> {
+    for x in x0..=x1 {
+        samples.push(tile_at(x / 64, y / 64))?;
+        samples.push(0x3c)?;
+    }
+    Ok(())
+}
+
 /// The samples of the first column and line of a window to its last ones.
-fn samples_of(alloc: Global, [x0, y0, x1, y1]: [u8; 4]) -> Result<Vec<u8>, Fail> {
+fn samples_of(alloc: Global, [x0, y0, x1, y1]: [u8; 4]) -> Result<Vec<u8>, NoMemory> {
     let mut samples = Vec::new(alloc);
     for y in y0..=y1 {
-        for x in x0..=x1 {
-            samples.extend_from_slice(&[tile_at(x / 64, y / 64), 0x3c])?;
-        }
+        put_line(&mut samples, y, x0, x1)?;
     }
     Ok(samples)
 }
 
-/// Windows, and the tiles that they meet.
-const MET: [([u8; 4], &[u32]); 7] = [
-    ([0, 0, 0, 0], &[0]),
-    ([63, 63, 63, 63], &[0]),
-    ([64, 0, 64, 63], &[1]),
-    ([0, 64, 63, 64], &[2]),
-    ([64, 64, 64, 64], &[3]),
-    ([63, 63, 64, 64], &[0, 1, 2, 3]),
-    ([0, 0, 64, 64], &[0, 1, 2, 3]),
+/// Windows, and the first tile that they meet and how many.
+const MET: &[([u8; 4], u8, u8)] = &[
+    ([0, 0, 0, 0], 0, 1),
+    ([63, 63, 63, 63], 0, 1),
+    ([64, 0, 64, 63], 1, 1),
+    ([0, 64, 63, 64], 2, 1),
+    ([64, 64, 64, 64], 3, 1),
+    ([63, 63, 64, 64], 0, 4),
+    ([0, 0, 64, 64], 0, 4),
 ];
 
-// A window takes one read for each tile that it meets: the last of them fails, or the one after it.
+/// Whether reading a window ends so, and the gate is told of these tiles.
+fn is_met<R: Threads + Sync>(
+    rt: &R,
+    alloc: Global,
+    (window, first, count): ([u8; 4], u8, u8),
+    failing: u64,
+    stop: Option<ReadStop>,
+    buffer: &[u8],
+) -> Result<bool, Fail> {
+    let [x0, y0, x1, y1] = window;
+    let request = Request {
+        window: Some([x0.into(), y0.into(), x1.into(), y1.into()]),
+        ..ALL
+    };
+    let got = outcome_of(rt, alloc, tiles(alloc)?, failing, &request, 16)?;
+    let told = told_of(u32::from(first), u32::from(count));
+    Ok(is_outcome(&got, stop, buffer, told))
+}
+
+/// A round whose reading failed.
+const FAILED: Option<ReadStop> = Some(ReadStop {
+    cause: ReadCause::Read,
+    rounds: 0,
+});
+
+// A window takes one read for each tile that it meets, after those of the head and the tables: the last of them fails, or
+// the one after it.
 #[test]
 fn tiles_that_a_window_meets(rt: HostRuntime) -> Result<(), Fail> {
     let alloc = rt.alloc();
-    for (window, met) in MET {
-        let [x0, y0, x1, y1] = window;
-        let request = Request {
-            window: Some([x0.into(), y0.into(), x1.into(), y1.into()]),
-            ..ALL
-        };
-        let count = met.len() as u64;
-        let got = outcome_of(
+    for (number, case) in MET.iter().enumerate() {
+        let (window, _, count) = *case;
+        let behind = u64::from(count).wrapping_add(2);
+        let samples = samples_of(alloc, window)?;
+        expect(
             &rt,
-            alloc,
-            tiles(alloc)?,
-            count.wrapping_add(2),
-            &request,
-            16,
-        )?;
-        assert_eq!(rt; got.stop, None);
-        assert_eq!(rt;
-            got.buffer.as_slice(),
-            samples_of(alloc, window)?.as_slice()
+            number,
+            is_met(&rt, alloc, *case, behind, None, &samples)?,
         );
-        assert_eq!(rt; got.told, told_of(met));
-        let got = outcome_of(
+        let last = behind.wrapping_sub(1);
+        let empty = vec![in alloc; 0xeeu8; samples.len()]?;
+        expect(
             &rt,
-            alloc,
-            tiles(alloc)?,
-            count.wrapping_add(1),
-            &request,
-            16,
-        )?;
-        let cause = ReadCause::Read;
-        assert_eq!(rt; got.stop, Some(ReadStop { cause, rounds: 0 }));
-        assert!(rt; got.buffer.iter().all(|byte| *byte == 0xee));
-        assert_eq!(rt; got.told, told_of(met));
+            number,
+            is_met(&rt, alloc, *case, last, FAILED, &empty)?,
+        );
     }
     Ok(())
 }

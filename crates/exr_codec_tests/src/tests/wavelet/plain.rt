@@ -1,9 +1,8 @@
 //! The wavelet as a plain, slow program: each level makes a new matrix, word by word, as the definition says it by
 //! place. It shares nothing with the loops that it is compared with.
 
-ghost use Rattle.std.specs.Prelude.{◌≤◌};
-
-use std::alloc::{AllocError, Global};
+use exr_base::NoMemory;
+use std::alloc::Global;
 
 /// Which way the wavelet goes.
 #[derive(Clone, Copy)]
@@ -12,8 +11,10 @@ pub(super) enum Way {
     Decode,
 }
 
-/// How many levels are tried: sides stay below 64.
-const LEVELS: u32 = 5;
+/// How far apart the words of a pair are at each level, in both orders: sides stay below 64.
+const UP: &[usize] = &[1, 2, 4, 8, 16];
+
+const DOWN: &[usize] = &[16, 8, 4, 2, 1];
 
 /// What a place is at one level along one side.
 #[derive(Clone, Copy)]
@@ -26,28 +27,25 @@ enum Part {
     Other,
 }
 
-fn part_of(place: usize, side: usize, p: usize) -> Part
-    requires apart { 1 ≤ p }
-    requires few { p ≤ 16 }
-{
-    let size = 2 * p;
-    let start = place - place % size;
-    if size <= side && start <= side - size {
-        if place == start {
-            Part::Pair {
-                start,
-                second: false,
-            }
-        } else if place - start == p {
-            Part::Pair {
-                start,
-                second: true,
-            }
-        } else {
-            Part::Other
-        }
-    } else if side / p % 2 == 1 && place == start {
+/// Of a side of so many places, in pairs of places that are p apart.
+fn part_of(place: usize, side: usize, p: usize) -> Part {
+    let size = p.wrapping_mul(2);
+    let from = place.checked_rem(size).unwrap_or(0);
+    let start = place.wrapping_sub(from);
+    if start.wrapping_add(size) <= side {
+        pair_part(start, from, p)
+    } else if from == 0 && side.checked_div(p).unwrap_or(0) % 2 == 1 {
         Part::Odd
+    } else {
+        Part::Other
+    }
+}
+
+/// Of the places after the start of a pair.
+fn pair_part(start: usize, from: usize, p: usize) -> Part {
+    let second = from == p;
+    if second || from == 0 {
+        Part::Pair { start, second }
     } else {
         Part::Other
     }
@@ -114,9 +112,18 @@ fn slow_square(way: Way, max: u16, corners: [u16; 4]) -> [u16; 4] {
     }
 }
 
-/// One of two or of four words.
-fn picked(pair: (u16, u16), second: bool) -> u16 {
-    if second { pair.1 } else { pair.0 }
+/// One of two words.
+fn picked((first, other): (u16, u16), second: bool) -> u16 {
+    if second { other } else { first }
+}
+
+/// One of the four words of a square.
+fn corner_of([first, right, below, across]: [u16; 4], is_right: bool, is_below: bool) -> u16 {
+    if is_below {
+        picked((below, across), is_right)
+    } else {
+        picked((first, right), is_right)
+    }
 }
 
 /// A matrix of words, line by line.
@@ -133,11 +140,20 @@ impl Plain<'_> {
         self.words.get(place).copied().unwrap_or(0)
     }
 
+    /// The words of the square whose first word is in column x of line y.
+    fn squared(&self, way: Way, max: u16, p: usize, (x, y): (usize, usize)) -> [u16; 4] {
+        let (far, low) = (x.wrapping_add(p), y.wrapping_add(p));
+        let corners = [
+            self.at(x, y),
+            self.at(far, y),
+            self.at(x, low),
+            self.at(far, low),
+        ];
+        slow_square(way, max, corners)
+    }
+
     /// The word in column x of line y after one level.
-    fn stepped(&self, way: Way, max: u16, p: usize, x: usize, y: usize) -> u16
-        requires apart { 1 ≤ p }
-        requires few { p ≤ 16 }
-    {
+    fn stepped(&self, way: Way, max: u16, p: usize, (x, y): (usize, usize)) -> u16 {
         match (part_of(x, self.nx, p), part_of(y, self.ny, p)) {
             (
                 Part::Pair {
@@ -148,21 +164,7 @@ impl Plain<'_> {
                     start: top,
                     second: below,
                 },
-            ) => {
-                let (far, low) = (left.wrapping_add(p), top.wrapping_add(p));
-                let corners = [
-                    self.at(left, top),
-                    self.at(far, top),
-                    self.at(left, low),
-                    self.at(far, low),
-                ];
-                let [a, b, c, d] = slow_square(way, max, corners);
-                if below {
-                    picked((c, d), right)
-                } else {
-                    picked((a, b), right)
-                }
-            }
+            ) => corner_of(self.squared(way, max, p, (left, top)), right, below),
             (Part::Pair { start, second }, Part::Odd) => {
                 let other = self.at(start.wrapping_add(p), y);
                 picked(slow_pair(way, max, self.at(start, y), other), second)
@@ -176,18 +178,19 @@ impl Plain<'_> {
     }
 }
 
-/// How far apart the words of a pair are at a level.
-fn step_of(level: u32) -> usize
-    ensures apart { 1 ≤ result }
-    ensures few { result ≤ 16 }
-{
-    match level {
-        0 => 1,
-        1 => 2,
-        2 => 4,
-        3 => 8,
-        _ => 16,
+/// Appends line y after one level.
+fn put_line(
+    words: &mut Vec<u16>,
+    plain: &Plain<'_>,
+    way: Way,
+    max: u16,
+    p: usize,
+    y: usize,
+) -> Result<(), NoMemory> {
+    for x in 0..plain.nx {
+        words.push(plain.stepped(way, max, p, (x, y)))?;
     }
+    Ok(())
 }
 
 fn slow_level(
@@ -196,15 +199,10 @@ fn slow_level(
     way: Way,
     max: u16,
     p: usize,
-) -> Result<Vec<u16>, AllocError>
-    requires apart { 1 ≤ p }
-    requires few { p ≤ 16 }
-{
+) -> Result<Vec<u16>, NoMemory> {
     let mut words = Vec::new(alloc);
     for y in 0..plain.ny {
-        for x in 0..plain.nx {
-            words.push(plain.stepped(way, max, p, x, y))?;
-        }
+        put_line(&mut words, plain, way, max, p, y)?;
     }
     Ok(words)
 }
@@ -217,21 +215,20 @@ pub(super) fn slow_wave(
     nx: usize,
     ny: usize,
     words: Vec<u16>,
-) -> Result<Vec<u16>, AllocError> {
+) -> Result<Vec<u16>, NoMemory> {
     let mut words = words;
-    for turn in 0..LEVELS {
-        let level = match way {
-            Way::Encode => turn,
-            Way::Decode => LEVELS - 1 - turn,
-        };
-        let p = step_of(level);
-        if 2 * p <= nx.min(ny) {
+    let levels = match way {
+        Way::Encode => UP,
+        Way::Decode => DOWN,
+    };
+    for p in levels {
+        if p.wrapping_mul(2) <= nx.min(ny) {
             let plain = Plain {
                 words: &words,
                 nx,
                 ny,
             };
-            words = slow_level(alloc, &plain, way, max, p)?;
+            words = slow_level(alloc, &plain, way, max, *p)?;
         }
     }
     Ok(words)
