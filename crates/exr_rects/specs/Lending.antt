@@ -1,0 +1,39 @@
+-- What a sheet is once the run of it that was lent has come back, and words on sheets.
+use Rattle.std.specs.Prelude.{◌≡◌, ℕ, ◌+◌, ◌<◌, zero, suc, refl, true, Bool, List, [], ◌∷◌, length}
+use mathlib.Core.Path.{sym, ap, ◌∙◌}
+use base.Fml.{Fml}
+use denote.RattleType.{RattleType}
+use denote.Ref.{MutBor}
+use denote.Array.{Array}
+use denote.Follow.{follows}
+use Rattle.exr_rects.specs.Marks.{marked, overwritten, both_items, both_marks}
+use Rattle.exr_rects.specs.declared.sheet.Sheet.{Sheet}
+use Rattle.exr_rects.specs.contracts.sheet.Sheet.{the_row}
+
+module _ {X : Type 0} where
+  pub length-overwritten : (xs : List X) (at : ℕ) (ws : List X) → length (overwritten xs at ws) ≡ length xs
+  length-overwritten [] at ws = refl
+  length-overwritten (x ∷ xs) zero [] = refl
+  length-overwritten (x ∷ xs) zero (w ∷ ws) = ap suc (length-overwritten xs zero ws)
+  length-overwritten (x ∷ xs) (suc at) ws = ap suc (length-overwritten xs at ws)
+
+  -- the sheet with ws over its elements from place `at` on
+  abbrev pub with_run : Sheet X → ℕ → List X → Sheet X
+  with_run s at ws = record { at = s.at; len = s.len; items = overwritten s.items at ws; mine = s.mine; ok = (s.ok.0 ∙ sym (length-overwritten s.items at ws), s.ok.1); small = s.small }
+
+  -- both are of one buffer
+  pub record SameBuffer (a b : Sheet X) : Type 0 where
+    pub start : b.at ≡ a.at
+    pub count : b.len ≡ a.len
+
+  -- the sheet owns every element of its buffer
+  abbrev pub IsWhole : Sheet X → Type 0
+  IsWhole s = (k : ℕ) → k < s.len → marked s.mine k ≡ true
+
+  -- the sheet owns the elements of the places from `at` to before `at + count`
+  abbrev pub OwnsRun : Sheet X → ℕ → ℕ → Type 0
+  OwnsRun s at count = (k : ℕ) → k < count → marked s.mine (at + k) ≡ true
+
+-- r is a run of s from place `at` on. When the loan ends, the sheet behind s has there what was written through r
+abbrev pub lends_run : (R : RattleType) → MutBor (Sheet R.Denot) → ℕ → MutBor (List R.Denot) → Fml
+lends_run R s at r = follows (the_row R) (Array R 0) s.ghost_name r.ghost_name (with_run s.now at)

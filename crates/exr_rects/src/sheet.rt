@@ -1,0 +1,93 @@
+//! The parts of one buffer, each with an owner of its own. All that reads or makes the raw pointer stands in this file.
+ghost use Rattle.std.specs.Prelude.{◌≡◌, ◌+◌, ◌^◌, ◌<◌, ◌≤◌, Bool, List, length, not, take, drop};
+ghost use Rattle.std.specs.Borrow.{sem};
+ghost use Rattle.core.specs.Mem.Slots.Ownership.{lent};
+ghost use Rattle.core.specs.Mem.Slots.{slots_ptr, slots_len, slots_items, slots_filled, IsFull};
+ghost use Rattle.exr_rects.specs.Ownership.{owned};
+ghost use Rattle.exr_rects.specs.Marks.{in_rect, marks_in, both_marks, both_items};
+
+use core::slots::Slots;
+use std::marker::{Model, Send};
+use std::slice;
+
+/// A buffer of `len` elements at `at`, of which a part is owned: the elements that `mine` marks.
+///
+/// `items` has a value for each element of the buffer. At a place that is not marked it is no more than the value that
+/// was there when the sheet was made: another sheet owns the element, and nothing here reads or writes it.
+#[derive(Drop)]
+pub struct Sheet<T> {
+    at: *mut T,
+    len: usize,
+    ghost items: { List T },
+    ghost mine: { List Bool },
+    ghost ok: { (len ≡ length items) × (len ≡ length mine) },
+    ghost small: { len < 2 ^ 64 },
+}
+
+impl<T> Model for Sheet<T> {
+    ghost also_owns = { λ s. owned T.row s.at s.len s.items s.mine };
+
+    ghost also_shares = { λ s _ κ. lent T.row s.at s.len s.items s.mine κ };
+}
+
+impl<T> Sheet<T> {
+    ghost use Rattle.exr_rects.specs.Lending.{lends_run, SameBuffer, IsWhole, OwnsRun};
+
+    pub(crate) fn of(row: Slots<T>) -> Sheet<T>
+        ensures { (result.at ≡ slots_ptr row) × (result.len ≡ slots_len row) × (result.items ≡ slots_items row) × (result.mine ≡ slots_filled row) }
+    {
+        let parts = unsafe { row.into_raw_parts() };
+        Sheet {
+            at: parts.0,
+            len: parts.1,
+        }
+    }
+
+    pub(crate) fn into_slots(self) -> Slots<T>
+        requires { IsWhole self }
+        ensures { (slots_ptr result ≡ self.at) × (slots_len result ≡ self.len) × (slots_items result ≡ self.items) × IsFull result }
+    {
+        let Sheet { at, len } = self;
+        unsafe { Slots::from_raw_parts(at, len) }
+    }
+
+    /// The rectangle's elements as one sheet, and the others as another.
+    pub fn cut(self, from: usize, rows: usize, cols: usize, pitch: usize) -> (Sheet<T>, Sheet<T>)
+        ensures same { SameBuffer self result.0 × SameBuffer self result.1 }
+        ensures items { (result.0.items ≡ self.items) × (result.1.items ≡ self.items) }
+        ensures inside { result.0.mine ≡ marks_in (λ k. in_rect from rows cols pitch k) 0 self.mine }
+        ensures outside { result.1.mine ≡ marks_in (λ k. not (in_rect from rows cols pitch k)) 0 self.mine }
+    {
+        let Sheet { at, len } = self;
+        (Sheet { at, len }, Sheet { at, len })
+    }
+
+    /// Two sheets of one buffer as one.
+    pub fn join(self, other: Sheet<T>) -> Sheet<T>
+        requires { SameBuffer self other }
+        ensures same { SameBuffer self result }
+        ensures items { result.items ≡ both_items self.mine self.items other.items }
+        ensures mine { result.mine ≡ both_marks self.mine other.mine }
+    {
+        let Sheet { at, len } = self;
+        let Sheet { at: _, len: _ } = other;
+        Sheet { at, len }
+    }
+
+    /// The `count` elements from place `at` on.
+    pub fn run(&self, at: usize, count: usize) -> &[T]
+        requires { (at + count ≤ self.now.len) × OwnsRun self.now at count }
+        ensures { result.now ≡ take count (drop at self.now.items) }
+    {
+        unsafe { slice::from_raw_parts(self.at.add(at), count) }
+    }
+
+    /// The `count` elements from place `at` on, to be written.
+    pub fn run_mut(&mut self, at: usize, count: usize) -> &mut [T]
+        requires { (at + count ≤ self.old.len) × OwnsRun self.old at count }
+        ensures* writes_back { sem 𝓛 (lends_run T.row self.entry at result) }
+        ensures value { result.now ≡ take count (drop at self.old.items) }
+    {
+        unsafe { slice::from_raw_parts_mut(self.at.add(at), count) }
+    }
+}
