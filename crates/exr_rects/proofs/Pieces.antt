@@ -28,6 +28,21 @@ use Rattle.core.proofs.slots.Places.{sz}
 use Rattle.exr_rects.specs.Ownership.{piece, pieces}
 use Rattle.exr_rects.specs.Marks.{marks_in, both_marks, both_items}
 
+pub length-marks_in : (p : ℕ → Bool) (k : ℕ) (ms : List Bool) → length (marks_in p k ms) ≡ length ms
+length-marks_in p k [] = refl
+length-marks_in p k (m ∷ ms) = ap suc (length-marks_in p (suc k) ms)
+
+pub length-both_marks : (ms ns : List Bool) → length ns ≡ length ms → length (both_marks ms ns) ≡ length ms
+length-both_marks [] ns e = e
+length-both_marks (m ∷ ms) [] e = refl
+length-both_marks (m ∷ ms) (n ∷ ns) e = let e' : suc (length ns) ≡ suc (length ms) = e in ap suc (length-both_marks ms ns (omega arith))
+
+pub length-both_items : {X : Type 0} (ms : List Bool) (xs ys : List X) → length ys ≡ length xs → length (both_items ms xs ys) ≡ length xs
+length-both_items [] xs ys e = e
+length-both_items (m ∷ ms) [] ys e = e
+length-both_items (m ∷ ms) (x ∷ xs) [] e = e
+length-both_items (m ∷ ms) (x ∷ xs) (y ∷ ys) e = let e' : suc (length ys) ≡ suc (length xs) = e in ap suc (length-both_items ms xs ys (omega arith))
+
 module _ (E : El) {M : Type 1} {𝓤 : Ura M} (𝓛 : Logic 𝓤) (b : ℕ) where
   abbrev ◌⊢◌ : SProp 𝓤 → SProp 𝓤 → Type 1
   P ⊢ Q = ent 𝓤 P Q
@@ -178,7 +193,8 @@ module _ (E : El) {M : Type 1} {𝓤 : Ura M} (𝓛 : Logic 𝓤) (b : ℕ) wher
     up_to (suc n) [] ms o lx lm full = absurd (not-suc-le-zero lx)
     up_to (suc n) (x ∷ xs) [] o lx lm full = absurd (not-suc-le-zero lm)
     up_to (suc n) (x ∷ xs) (true ∷ ms) o lx lm full =
-        mono_r 𝓤 ⟦ slot_lent (R E) true (block_ptr b o) x κ ⟧ (up_to n xs ms (o + s) (le_of_suc-le-suc lx) (le_of_suc-le-suc lm) (λ k lt. full (suc k) (let up : suc k < suc n = omega arith in up)))
+        qed 𝓛 (‵ (slot_lent (R E) true (block_ptr b o) x κ) ∷ ‵ (Seen (o + s) xs ms) ∷ []) ∵ fsplit ! $ skip ! $ frame ! $
+        by ! (up_to n xs ms (o + s) (le_of_suc-le-suc lx) (le_of_suc-le-suc lm) (λ k lt. full (suc k) (let up : suc k < suc n = omega arith in up)))
     up_to (suc n) (x ∷ xs) (false ∷ ms) o lx lm full = let no : false ≡ true = full 0 (let up : 0 < suc n = omega arith in up) in cc
 
     pub run_seen : (o : ℕ) (xs : List (el_x E)) (ms : List Bool) (a n : ℕ) → a + n ≤ length xs → length ms ≡ length xs → ((k : ℕ) → k < n → get_or (drop a ms) k false ≡ true)

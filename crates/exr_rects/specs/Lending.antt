@@ -1,12 +1,12 @@
 -- What a sheet is once the run of it that was lent has come back, and words on sheets.
-use Rattle.std.specs.Prelude.{◌≡◌, ℕ, ◌+◌, ◌<◌, zero, suc, refl, true, Bool, List, [], ◌∷◌, length}
+use Rattle.std.specs.Prelude.{◌≡◌, ℕ, ◌+◌, ◌<◌, zero, suc, refl, true, not, Bool, List, [], ◌∷◌, length}
 use mathlib.Core.Path.{sym, ap, ◌∙◌}
 use base.Fml.{Fml}
 use denote.RattleType.{RattleType}
 use denote.Ref.{MutBor}
 use denote.Array.{Array}
 use denote.Follow.{follows}
-use Rattle.exr_rects.specs.Marks.{marked, overwritten, both_items, both_marks}
+use Rattle.exr_rects.specs.Marks.{marked, marks_in, overwritten, both_items, both_marks}
 use Rattle.exr_rects.specs.declared.sheet.Sheet.{Sheet}
 use Rattle.exr_rects.specs.contracts.sheet.Sheet.{the_row}
 
@@ -25,6 +25,19 @@ module _ {X : Type 0} where
   pub record SameBuffer (a b : Sheet X) : Type 0 where
     pub start : b.at ≡ a.at
     pub count : b.len ≡ a.len
+
+  -- `inside` is what `whole` has at the places that p names, and `rest` is what it has elsewhere
+  pub record IsCut (p : ℕ → Bool) (whole inside rest : Sheet X) : Type 0 where
+    pub one_buffer : SameBuffer whole inside × SameBuffer whole rest
+    pub items : (inside.items ≡ whole.items) × (rest.items ≡ whole.items)
+    pub inside_marks : inside.mine ≡ marks_in p 0 whole.mine
+    pub rest_marks : rest.mine ≡ marks_in (λ k. not (p k)) 0 whole.mine
+
+  -- `both` is what a and b have together
+  pub record IsJoined (a b both : Sheet X) : Type 0 where
+    pub one_buffer : SameBuffer a both
+    pub items : both.items ≡ both_items a.mine a.items b.items
+    pub marks : both.mine ≡ both_marks a.mine b.mine
 
   -- the sheet owns every element of its buffer
   abbrev pub IsWhole : Sheet X → Type 0

@@ -1,10 +1,10 @@
 //! The parts of one buffer, each with an owner of its own. All that reads or makes the raw pointer stands in this file.
-ghost use Rattle.std.specs.Prelude.{◌≡◌, ◌+◌, ◌^◌, ◌<◌, ◌≤◌, Bool, List, length, not, take, drop};
+ghost use Rattle.std.specs.Prelude.{◌≡◌, ◌+◌, ◌^◌, ◌<◌, ◌≤◌, Bool, List, length, take, drop};
 ghost use Rattle.std.specs.Borrow.{sem};
 ghost use Rattle.core.specs.Mem.Slots.Ownership.{lent};
 ghost use Rattle.core.specs.Mem.Slots.{slots_ptr, slots_len, slots_items, slots_filled, IsFull};
 ghost use Rattle.exr_rects.specs.Ownership.{owned};
-ghost use Rattle.exr_rects.specs.Marks.{in_rect, marks_in, both_marks, both_items};
+ghost use Rattle.exr_rects.specs.Marks.{in_rect};
 
 use core::slots::Slots;
 use std::marker::{Model, Send};
@@ -31,7 +31,7 @@ impl<T> Model for Sheet<T> {
 }
 
 impl<T> Sheet<T> {
-    ghost use Rattle.exr_rects.specs.Lending.{lends_run, SameBuffer, IsWhole, OwnsRun};
+    ghost use Rattle.exr_rects.specs.Lending.{lends_run, SameBuffer, IsCut, IsJoined, IsWhole, OwnsRun};
 
     pub(crate) fn of(row: Slots<T>) -> Sheet<T>
         ensures { (result.at ≡ slots_ptr row) × (result.len ≡ slots_len row) × (result.items ≡ slots_items row) × (result.mine ≡ slots_filled row) }
@@ -53,10 +53,7 @@ impl<T> Sheet<T> {
 
     /// The rectangle's elements as one sheet, and the others as another.
     pub fn cut(self, from: usize, rows: usize, cols: usize, pitch: usize) -> (Sheet<T>, Sheet<T>)
-        ensures same { SameBuffer self result.0 × SameBuffer self result.1 }
-        ensures items { (result.0.items ≡ self.items) × (result.1.items ≡ self.items) }
-        ensures inside { result.0.mine ≡ marks_in (λ k. in_rect from rows cols pitch k) 0 self.mine }
-        ensures outside { result.1.mine ≡ marks_in (λ k. not (in_rect from rows cols pitch k)) 0 self.mine }
+        ensures { IsCut (in_rect from rows cols pitch) self result.0 result.1 }
     {
         let Sheet { at, len } = self;
         (Sheet { at, len }, Sheet { at, len })
@@ -65,9 +62,7 @@ impl<T> Sheet<T> {
     /// Two sheets of one buffer as one.
     pub fn join(self, other: Sheet<T>) -> Sheet<T>
         requires { SameBuffer self other }
-        ensures same { SameBuffer self result }
-        ensures items { result.items ≡ both_items self.mine self.items other.items }
-        ensures mine { result.mine ≡ both_marks self.mine other.mine }
+        ensures { IsJoined self other result }
     {
         let Sheet { at, len } = self;
         let Sheet { at: _, len: _ } = other;
