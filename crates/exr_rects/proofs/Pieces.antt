@@ -26,7 +26,7 @@ use Rattle.core.proofs.mem.Param.{El, R, el_x}
 use Rattle.core.specs.Mem.Slots.Ownership.{slot, slots, slot_lent, slots_lent}
 use Rattle.core.proofs.slots.Places.{sz}
 use Rattle.exr_rects.specs.Ownership.{piece, pieces}
-use Rattle.exr_rects.specs.Marks.{marks_in, both_marks, both_items}
+use Rattle.exr_rects.specs.Marks.{marks_in, both_marks, both_items, overwritten}
 
 pub length-marks_in : (p : ℕ → Bool) (k : ℕ) (ms : List Bool) → length (marks_in p k ms) ≡ length ms
 length-marks_in p k [] = refl
@@ -42,6 +42,23 @@ length-both_items [] xs ys e = e
 length-both_items (m ∷ ms) [] ys e = e
 length-both_items (m ∷ ms) (x ∷ xs) [] e = e
 length-both_items (m ∷ ms) (x ∷ xs) (y ∷ ys) e = let e' : suc (length ys) ≡ suc (length xs) = e in ap suc (length-both_items ms xs ys (omega arith))
+
+module _ {X : Type 0} where
+  at_front : (xs ws : List X) → length ws ≤ length xs → ws ++ drop (length ws) xs ≡ overwritten xs 0 ws
+  at_front [] [] fits = refl
+  at_front [] (w ∷ ws) fits = absurd (not-suc-le-zero fits)
+  at_front (x ∷ xs) [] fits = refl
+  at_front (x ∷ xs) (w ∷ ws) fits = ap (λ l. w ∷ l) (at_front xs ws (le_of_suc-le-suc fits))
+
+  overwritten_to : (xs : List X) (a j : ℕ) (ws : List X) → j ≡ a + length ws → j ≤ length xs → take a xs ++ (ws ++ drop j xs) ≡ overwritten xs a ws
+  overwritten_to xs zero j ws e fits = let same : j ≡ length ws = omega arith in ap (λ (k : ℕ). ws ++ drop k xs) same ∙ at_front xs ws (omega arith)
+  overwritten_to xs (suc a) zero ws e fits = absurd (not-suc-le-zero {n = 0} (omega arith))
+  overwritten_to [] (suc a) (suc j) ws e fits = absurd (not-suc-le-zero fits)
+  overwritten_to (x ∷ xs) (suc a) (suc j) ws e fits = ap (λ l. x ∷ l) (overwritten_to xs a j ws (omega arith) (le_of_suc-le-suc fits))
+
+  -- a run put into its place is the list overwritten there
+  pub overwritten_is : (xs : List X) (a n : ℕ) (ws : List X) → a + n ≤ length xs → length ws ≡ n → spliced xs a n ws ≡ overwritten xs a ws
+  overwritten_is xs a n ws fits long = overwritten_to xs a (a + n) ws (ap (λ (k : ℕ). a + k) (sym long)) fits
 
 module _ (E : El) {M : Type 1} {𝓤 : Ura M} (𝓛 : Logic 𝓤) (b : ℕ) where
   abbrev ◌⊢◌ : SProp 𝓤 → SProp 𝓤 → Type 1

@@ -1,25 +1,29 @@
 -- What a sheet owns is taken apart and made, and a `&mut` to one is opened, at any element type. Assumes `Logic`.
 use mathlib.Core.Path.{◌≡◌, refl, sym, ap, ◌∙◌}
-use Prim.Native.Nat.{ℕ, ◌*◌, ◌<◌, ◌^◌}
+use Prim.Native.Nat.{ℕ, ◌+◌, ◌*◌, ◌<◌, ◌^◌}
 use mathlib.Core.List.{List, [], ◌∷◌, ◌++◌}
 use seplogic.Ra.Ura.{Ura}
 use base.Fraction.{full_share}
 use mir.Syntax.{w64}
 use mir.Val.{Val, vint, vptr, vstruct, of_list}
-use base.Logic.{id⊢, never}
-use base.Fml.{Lft, GName, Share, Fml, fsep, flt, flft, fobs, fauth, fbor, fobor}
-use types.Logic.{Logic}
-use types.Kit.{Goal, Soaks, Step, step, Seq, Item, ‵, ◌$◌, move, drop, rewrite, fsplit, fjoin, fpick, fpack, feq_l, feq_i, flt_l, flt_i}
+use base.Logic.{ent, sep, id⊢, never}
+use base.Fml.{Lft, GName, Share, Fml, fsep, flt, flft, fobs, fauth, fbor, fobor, fhide}
+use types.Logic.{Logic, sem}
+use types.Kit.{Goal, Soaks, Step, step, Seq, Item, ‵, ◌⊛◌, ◌$◌, ◌∵◌, !, qed, use1, split, keep, done, move, drop, rewrite, fsplit, fjoin, fpick, fpack, feq_l, feq_i, flt_l, flt_i}
 use types.SemTy.{Body}
 use denote.RattleType.{RattleType, Valss}
-use denote.Memory.{cell_at, mem}
-use denote.RawPtr.{Ptr, block_ptr, in_block, in_a_block}
+use denote.Memory.{cell_at, mem, hidden_shr}
+use denote.Builtin.{usize}
+use denote.Opens.{unhide}
+use denote.Struct.Lending.{lent_out}
+use denote.RawPtr.{Ptr, RawPtr, block_ptr, in_block, in_a_block}
 use denote.Steps.{opens, nothing}
 use denote.Struct.Struct.{Struct, within}
 use denote.Struct.Owning.{Owning, shape}
 use Rattle.core.proofs.mem.Param.{El, R, el_x}
 use Rattle.core.proofs.slots.Places.{sz}
 use Rattle.core.proofs.slots.Opens.{words_val, row_val}
+use Rattle.core.specs.Mem.Slots.Ownership.{slots_lent}
 use Rattle.exr_rects.specs.Ownership.{pieces}
 use Rattle.exr_rects.specs.declared.sheet.Sheet.{Sheet}
 use Rattle.exr_rects.specs.contracts.sheet.Sheet as C
@@ -68,3 +72,11 @@ module _ (E : El) {M : Type 1} {𝓤 : Ura M} {𝓛 : Logic 𝓤} {K : Type 0} {
   sheet_opens t z d rb ro k =
       opens t z (Sr E) {h = d} rb ro (λ vs. move t (1 ∷ []) $ sheet_had E t d vs (λ b o e is fn fit.
       rewrite t 1 (λ (ws : List Val). ‵ (cell_at full_share (Sr E).mir ws rb ro)) is refl $ k b o e fn fit))
+
+module _ (E : El) {M : Type 1} {𝓤 : Ura M} (𝓛 : Logic 𝓤) (κ : Lft) where
+  -- what a `&` to a sheet shows: its two words, and a `&` to each element that it owns
+  pub shown : (d : el_d E) (b o : ℕ) → ent 𝓤 (sem 𝓛 (hidden_shr (Sr E) κ d b o)) (sep 𝓤 (sem 𝓛 (hidden_shr RawPtr κ d.at b (o + 0))) (sep 𝓤 (sem 𝓛 (hidden_shr usize κ d.len b (o + 8)))
+      (sep 𝓤 (sem 𝓛 (flt (d.len * sz E) (2 ^ 63))) (sem 𝓛 (slots_lent (R E) d.at d.items d.mine κ)))))
+  shown d b o = qed 𝓛 (‵ (hidden_shr (Sr E) κ d b o) ∷ []) ∵
+      use1 𝓛 (‵ (hidden_shr (Words E) κ (d.at, (d.len, tt)) b o) ⊛ ‵ (fhide (C.the_lent (R E) d d.at κ))) (lent_out 𝓛 (C.struct (R E)) (C.the_codes (el_x E) (R E).coded) (C.the_heap (R E)) (C.the_lent (R E)) κ d b o) $ split ! $
+      unhide ! $ fsplit ! $ fsplit ! $ move ! (1 ∷ []) $ fsplit ! $ keep ! (2 ∷ 0 ∷ 4 ∷ []) $ done !

@@ -30,6 +30,9 @@ impl<T> Model for Sheet<T> {
     ghost also_shares = { λ s _ κ. lent T.row s.at s.len s.items s.mine κ };
 }
 
+/// A sheet may go to another thread: what it owns is nobody else's.
+unsafe impl<T: Send> Send for Sheet<T> {}
+
 impl<T> Sheet<T> {
     ghost use Rattle.exr_rects.specs.Lending.{lends_run, SameBuffer, IsCut, IsJoined, IsWhole, OwnsRun};
 
@@ -71,7 +74,7 @@ impl<T> Sheet<T> {
 
     /// The `count` elements from place `at` on.
     pub fn run(&self, at: usize, count: usize) -> &[T]
-        requires { (at + count ≤ self.now.len) × OwnsRun self.now at count }
+        requires { (0 < count) × (at + count ≤ self.now.len) × OwnsRun self.now at count }
         ensures { result.now ≡ take count (drop at self.now.items) }
     {
         unsafe { slice::from_raw_parts(self.at.add(at), count) }

@@ -93,7 +93,7 @@ module _ (E : El) where
         let from : ℕ = z.0.3.1.0 in let rows : ℕ = z.0.3.1.1.0 in let cols : ℕ = z.0.3.1.1.1.0 in let pitch : ℕ = z.0.3.1.1.1.1.0 in
         let p : ℕ → Bool = in_rect from rows cols pitch in
         let Run : List Val → SProp 𝓤 = λ ws. WpFn 𝓤 H 𝓣.C 𝓣.Λ here ws ((walk_of 𝓛 ended stayed clauses).post z) in
-        qed 𝓛 ((raw (alive 𝓛 ended.signature z.0.0 z.0.1) ⊛ ‵ (owns (types_at ended.signature.params z.0.0) z.0.3 vss)) ∷ raw (fact 𝓤 (z.0.0.0 ⊑ E.row.lives)) ∷ []) ∵
+        qed 𝓛 ((raw (alive 𝓛 ended.signature z.0.0 z.0.1) ⊛ ‵ (owns (types_at ended.signature.params z.0.0) z.0.3 vss)) ∷ raw ((clauses z.0.0 z.0.3).requires z.1) ∷ []) ∵
         split ! $ move ! (1 ∷ []) $ fsplit ! $ sheet_had E ! d vss.0 (λ b o at_b e₀ fn fit. move ! (1 ∷ []) $
         fsplit ! $ fsplit ! $ feq_l ! (λ e₁. flt_l ! (λ f₁. fsplit ! $ fsplit ! $ feq_l ! (λ e₂. flt_l ! (λ f₂. fsplit ! $ fsplit ! $ feq_l ! (λ e₃. flt_l ! (λ f₃. fsplit ! $ fsplit ! $ feq_l ! (λ e₄. flt_l ! (λ f₄.
         keep ! (1 ∷ 2 ∷ []) $
