@@ -7,6 +7,8 @@ use denote.Ref.{MutBor}
 use denote.Array.{Array}
 use denote.Follow.{follows}
 use Rattle.exr_rects.specs.Marks.{marked, marks_in, overwritten, both_items, both_marks}
+use Rattle.core.specs.declared.slots.Slots.{Slots}
+use Rattle.core.specs.Mem.Slots.{slots_ptr, slots_len, slots_items, slots_filled, IsFull}
 use Rattle.exr_rects.specs.declared.sheet.Sheet.{Sheet}
 use Rattle.exr_rects.specs.contracts.sheet.Sheet.{the_row}
 
@@ -42,6 +44,36 @@ module _ {X : Type 0} where
   -- the sheet owns every element of its buffer
   abbrev pub IsWhole : Sheet X → Type 0
   IsWhole s = (k : ℕ) → k < s.len → marked s.mine k ≡ true
+
+  -- the sheet owns xs, which are all elements of its buffer
+  pub record IsAllOf (s : Sheet X) (xs : List X) : Type 0 where
+    pub whole : IsWhole s
+    pub are : s.items ≡ xs
+
+  -- b is of the buffer of a, and owns every element of it
+  pub record GivesBack (a b : Sheet X) : Type 0 where
+    pub one_buffer : SameBuffer a b
+    pub whole : IsWhole b
+
+  -- the sheet has the places of a row of slots, and owns the values that it holds
+  pub record IsOfSlots (s : Sheet X) (row : Slots X) : Type 0 where
+    pub start : s.at ≡ slots_ptr row
+    pub count : s.len ≡ slots_len row
+    pub items : s.items ≡ slots_items row
+    pub marks : s.mine ≡ slots_filled row
+
+  -- the row of slots is full, and its values are all that the sheet owns
+  pub record IsSlotsOf (row : Slots X) (s : Sheet X) : Type 0 where
+    pub start : slots_ptr row ≡ s.at
+    pub count : slots_len row ≡ s.len
+    pub items : slots_items row ≡ s.items
+    pub full : IsFull row
+
+  -- b is a with ws over its elements from place `at` on; it owns what a owns
+  pub record IsWritten (a b : Sheet X) (at : ℕ) (ws : List X) : Type 0 where
+    pub one_buffer : SameBuffer a b
+    pub marks : b.mine ≡ a.mine
+    pub items : b.items ≡ overwritten a.items at ws
 
   -- the sheet owns the elements of the places from `at` to before `at + count`
   abbrev pub OwnsRun : Sheet X → ℕ → ℕ → Type 0

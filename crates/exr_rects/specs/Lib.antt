@@ -2,3 +2,4 @@
 pub mod Ownership
 pub mod Marks
 pub mod Lending
+pub mod Rects

@@ -1,5 +1,5 @@
 -- Which places of a buffer a sheet owns, and which a rectangle has.
-use Rattle.std.specs.Prelude.{ℕ, zero, suc, ◌+◌, leb, ltb, ◌&&◌, ◌||◌, if◌then◌else◌, Bool, false, List, [], ◌∷◌, slice_index_or}
+use Rattle.std.specs.Prelude.{◌≡◌, ℕ, zero, suc, ◌+◌, ◌*◌, ◌<◌, ◌≤◌, leb, ltb, ◌&&◌, ◌||◌, if◌then◌else◌, Bool, true, false, List, [], ◌∷◌, slice_index_or, take, drop}
 
 -- whether place k is marked
 abbrev pub marked : List Bool → ℕ → Bool
@@ -10,6 +10,14 @@ marked ms k = slice_index_or ms k false
 abbrev pub in_rect : ℕ → ℕ → ℕ → ℕ → ℕ → Bool
 in_rect from zero cols pitch k = false
 in_rect from (suc rows) cols pitch k = (leb from k && ltb k (from + cols)) || in_rect (from + pitch) rows cols pitch k
+
+-- each place of such a rectangle is marked
+abbrev pub MarksRect : List Bool → ℕ → ℕ → ℕ → ℕ → Type 0
+MarksRect ms from rows cols pitch = (row col : ℕ) → row < rows → col < cols → marked ms (from + (row * pitch + col)) ≡ true
+
+-- each row of such a rectangle ends within n places
+abbrev pub RectFits : ℕ → ℕ → ℕ → ℕ → ℕ → Type 0
+RectFits n from rows cols pitch = (row : ℕ) → row < rows → from + (row * pitch + cols) ≤ n
 
 -- the marks at the places that p names; the first mark is of place k
 abbrev pub marks_in : (ℕ → Bool) → ℕ → List Bool → List Bool
@@ -36,3 +44,8 @@ module _ {X : Type 0} where
   overwritten (x ∷ xs) zero [] = x ∷ xs
   overwritten (x ∷ xs) zero (w ∷ ws) = w ∷ overwritten xs zero ws
   overwritten (x ∷ xs) (suc at) ws = x ∷ overwritten xs at ws
+
+  -- the rows of such a rectangle
+  abbrev pub rows_of : List X → ℕ → ℕ → ℕ → ℕ → List (List X)
+  rows_of xs from zero cols pitch = []
+  rows_of xs from (suc rows) cols pitch = take cols (drop from xs) ∷ rows_of xs (from + pitch) rows cols pitch

@@ -2,7 +2,6 @@
 ghost use Rattle.std.specs.Prelude.{◌≡◌, ◌+◌, ◌^◌, ◌<◌, ◌≤◌, Bool, List, length, take, drop};
 ghost use Rattle.std.specs.Borrow.{sem};
 ghost use Rattle.core.specs.Mem.Slots.Ownership.{lent};
-ghost use Rattle.core.specs.Mem.Slots.{slots_ptr, slots_len, slots_items, slots_filled, IsFull};
 ghost use Rattle.exr_rects.specs.Ownership.{owned};
 ghost use Rattle.exr_rects.specs.Marks.{in_rect};
 
@@ -34,10 +33,10 @@ impl<T> Model for Sheet<T> {
 unsafe impl<T: Send> Send for Sheet<T> {}
 
 impl<T> Sheet<T> {
-    ghost use Rattle.exr_rects.specs.Lending.{lends_run, SameBuffer, IsCut, IsJoined, IsWhole, OwnsRun};
+    ghost use Rattle.exr_rects.specs.Lending.{lends_run, SameBuffer, IsOfSlots, IsSlotsOf, IsCut, IsJoined, IsWhole, OwnsRun};
 
     pub(crate) fn of(row: Slots<T>) -> Sheet<T>
-        ensures { (result.at ≡ slots_ptr row) × (result.len ≡ slots_len row) × (result.items ≡ slots_items row) × (result.mine ≡ slots_filled row) }
+        ensures { IsOfSlots result row }
     {
         let parts = unsafe { row.into_raw_parts() };
         Sheet {
@@ -48,7 +47,7 @@ impl<T> Sheet<T> {
 
     pub(crate) fn into_slots(self) -> Slots<T>
         requires { IsWhole self }
-        ensures { (slots_ptr result ≡ self.at) × (slots_len result ≡ self.len) × (slots_items result ≡ self.items) × IsFull result }
+        ensures { IsSlotsOf result self }
     {
         let Sheet { at, len } = self;
         unsafe { Slots::from_raw_parts(at, len) }

@@ -32,7 +32,7 @@ use Rattle.exr_rects.specs.contracts.sheet.Sheet as sheets
 use Rattle.exr_rects.proofs.Sheets.{Sr, el_d, sheet_had, sheet_made}
 use Rattle.exr_rects.proofs.Raw.{Row, all as places, parts_typed, row_Typed, Row-seen, Into, at_into, Into-goes, Into-gives, From, at_from, Made, from_goes, from_gives}
 use Rattle.core.proofs.slots.Slots.from_raw_parts.Met as callee
-use Rattle.exr_rects.specs.Lending.{IsWhole}
+use Rattle.exr_rects.specs.Lending.{IsWhole, IsSlotsOf}
 use Rattle.exr_rects.proofs.Pieces.{to_slots}
 use Rattle.exr_rects.specs.contracts.sheet.Sheet.into_slots.{ended, clauses}
 use Rattle.exr_rects.specs.contracts.sheet.Sheet.into_slots.Key.{name as #self}
@@ -60,7 +60,7 @@ into_slots_spec 𝓤 𝓛 𝓜 𝓡 wired T L =
     use1 𝓛 (later (some (λ (r : (Row E).Denot). given ((v ≡ row_val b o k) × Made E 𝓛 𝓜.mem 𝓡.returns κ q b o k xs fs r) (‵ ((Row E).own_val r (row_val b o k ∷ [])) ⊛ ‵ (flft κ q)))))
     (from_gives E 𝓛 𝓜.mem 𝓡.returns κ q b o k xs fs v) $ await ! tt $ pick ! (λ r. learn ! (λ got. split ! $ let made = got.1 in
     let whole : IsFull r = λ j low high. let near : j < k = subst (λ (n : ℕ). j < n) made.1 high in ap (λ (gs : List Bool). lib.ListN.get_or gs j mathlib.Core.Bool.false) made.3 ∙ full j near in
-    let Told : Type 0 = (slots_ptr r ≡ d.at) × (slots_len r ≡ k) × (slots_items r ≡ xs) × IsFull r in
+    let Told : Type 0 = IsSlotsOf r d in
     lands_last ! refl (row_Typed E v b o k got.0 fk) $ exec ! 𝓣.C 𝓣.Λ Ev (tail (tail (tail fn.body))) (at_ret Ev Post) $ sets ! (is ! (of_opd ! (get ! refl)) got.0) refl (tt, words) $
-    nothing ! $ move ! (2 ∷ 0 ∷ []) $ join ! $ use0 𝓛 (raw (fact 𝓤 Told)) (fact_i 𝓤 Told (emp 𝓤) (made.0 ∙ sym at, made.1, made.2, whole)) $ nothing ! $ nothing ! $ fjoin ! $
+    nothing ! $ move ! (2 ∷ 0 ∷ []) $ join ! $ use0 𝓛 (raw (fact 𝓤 Told)) (fact_i 𝓤 Told (emp 𝓤) (record { start = made.0 ∙ sym at; count = made.1; items = made.2; full = whole })) $ nothing ! $ nothing ! $ fjoin ! $
     returns ! (look_at ! 0 refl) $ free_all ! refl $ keep ! (2 ∷ 0 ∷ 3 ∷ 1 ∷ []) $ by ! (leaves 𝓛 En hs c z (row_val b o k) r (tt, tt) (tt, tt))))))))))

@@ -32,6 +32,7 @@ use Rattle.exr_rects.specs.contracts.sheet.Sheet as sheets
 use Rattle.exr_rects.proofs.Sheets.{Sr, el_d, sheet_had, sheet_made}
 use Rattle.exr_rects.proofs.Raw.{Row, all as places, parts_typed, row_Typed, Row-seen, Into, at_into, Into-goes, Into-gives, From, at_from, Made, from_goes, from_gives}
 use Rattle.core.proofs.slots.Slots.into_raw_parts.Met as callee
+use Rattle.exr_rects.specs.Lending.{IsOfSlots}
 use Rattle.exr_rects.proofs.Pieces.{of_slots}
 use Rattle.exr_rects.specs.contracts.sheet.Sheet.of.{ended, clauses}
 use Rattle.exr_rects.specs.contracts.sheet.Sheet.of.Key.{name as #self}
@@ -51,7 +52,7 @@ of_spec 𝓤 𝓛 𝓜 𝓡 wired T L =
     move ! (1 ∷ []) $ use1 𝓛 (raw (fact 𝓤 (κ ⊑ T.lives)) ⊛ ‵ ftrue) (id⊢ 𝓤 _) $ split ! $ move ! (1 ∷ []) $ types.Kit.drop ! $ heard ! (κ ⊑ T.lives) (λ le. split ! $ split ! $ move ! (2 ∷ []) $ fsplit ! $ Row-seen E ! r vss.0 (λ b o at e fk fit. keep ! (0 ∷ 2 ∷ []) $
     let us : List Val = row_val b o k ∷ [] in let p : Ptr = block_ptr b o in
     let words : WT (row_val b o k) = (tt, (record { fits = fk }, tt)) in let new : el_d E = record { at = p; len = k; items = xs; mine = fs; ok = slots_counts r; small = slots_small r } in
-    let Told : Type 0 = (p ≡ slots_ptr r) × (k ≡ k) × (xs ≡ xs) × (fs ≡ fs) in
+    let Told : Type 0 = IsOfSlots new r in
     types.Kit.suffices ! (Run us) (subst (λ (ws : List Val). ent 𝓤 (Run us) (Run ws)) (sym (λ i. e i ++ [])) (id⊢ 𝓤 (Run us))) $
     enter ! 𝓣.C 𝓣.Λ fn us Post $ alloc_all ! (λ l. pass_all ! refl ((tt, words), tt) $ let Ev = env fn.locals l in let y = at_into E 𝓛 𝓜.mem 𝓡.returns κ q r b o in
     first ! $ blocks ! $ sets ! (of_opd ! (get ! refl)) refl (tt, words) $
@@ -62,5 +63,5 @@ of_spec 𝓤 𝓛 𝓜 𝓡 wired T L =
     sets ! (is ! (of_opd ! (get ! refl)) ev) refl (tt, words) $
     sets ! (agg ! (and_then ! (get_in ! (fld ! refl (stop !)) (sub ! 0 refl (whole !))) (and_then ! (get_in ! (fld ! refl (stop !)) (sub ! 1 refl (whole !))) (no_more !)))) refl (tt, words) $
     use1 𝓛 (‵ (pieces (R E) p xs fs)) (of_slots E 𝓛 b xs fs o) $ sheet_made E ! new b o refl fk fit $ nothing ! $ move ! (2 ∷ 0 ∷ []) $ join ! $
-    use0 𝓛 (raw (fact 𝓤 Told)) (fact_i 𝓤 Told (emp 𝓤) (sym at, refl, refl, refl)) $ nothing ! $ nothing ! $ fjoin ! $
+    use0 𝓛 (raw (fact 𝓤 Told)) (fact_i 𝓤 Told (emp 𝓤) (record { start = sym at; count = refl; items = refl; marks = refl })) $ nothing ! $ nothing ! $ fjoin ! $
     returns ! (look_at ! 0 refl) $ free_all ! refl $ keep ! (2 ∷ 0 ∷ 3 ∷ 1 ∷ []) $ by ! (leaves 𝓛 En hs c z (row_val b o k) new (tt, tt) (tt, tt))))))))
