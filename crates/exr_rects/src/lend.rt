@@ -22,7 +22,18 @@ pub fn with_sheet<T, S, X, R, F: FnOnce(Sheet<T>, S, X) -> (Sheet<T>, S, R)>(
     ensures { (sheet : Whole T) × (back : Whole T) × IsAllOf sheet into.old × F.post work sheet state.old x (back, state.new, result) × (into.new ≡ back.items) }
 {
     // The values of the slots that come back are the sheet's items, and it owns them all: none is lost.
-    unsafe { with_slots(into, state, x, |slots, state, x| work_on(work, slots, state, x)) }
+    unsafe {
+        with_slots(
+            into,
+            state,
+            x,
+            |slots: Slots<T>, state: S, x: X| -> (Slots<T>, S, R)
+                requires callable { (sheet : Whole T) → IsOfSlots sheet slots → F.pre work sheet state x }
+                requires returned { (sheet : Whole T) (out : Whole T × S × R) → IsOfSlots sheet slots → F.post work sheet state x out → IsWhole out.0 }
+                ensures { (sheet : Whole T) × (back : Whole T) × IsOfSlots sheet slots × F.post work sheet state x (back, result.1, result.2) × IsSlotsOf result.0 back }
+            { work_on(work, slots, state, x) },
+        )
+    }
 }
 
 // Calls `work` with the values of `slots`.
