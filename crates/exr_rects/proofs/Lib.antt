@@ -1,3 +1,4 @@
 mod Pieces
 mod Raw
+pub mod Rows
 mod Sheets
