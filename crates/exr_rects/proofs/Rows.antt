@@ -7,7 +7,7 @@ use lib.Dec.{leb, ltb}
 use Rattle.std.proofs.Math.Nat.{eq-or-lt_of_le}
 use Rattle.std.proofs.lemmas.Bool.{cases_lt}
 use Rattle.std.proofs.lemmas.Bool.Decides.{nat_tests}
-use Rattle.exr_rects.specs.Marks.{in_rect, marks_in, marked, MarksRect, overwritten, rows_of}
+use Rattle.exr_rects.specs.Marks.{in_rect, marks_in, marked, MarksRect, RectFits, overwritten, rows_of}
 
 module _ {X : Type 0} where
   drop_past : (xs : List X) (p j : ℕ) (ws : List X) → p + length ws ≤ j → drop j (overwritten xs p ws) ≡ drop j xs
@@ -179,3 +179,7 @@ module _ (ms : List Bool) (from rows cols pitch : ℕ) (inside : MarksRect ms fr
         | inr past ↦ (let less : suc row * pitch ≤ other * pitch = mul-le-mul_right pitch past in let next = suc-mul row pitch in inl (omega arith))
         ]
       ])) mine
+
+-- where the last row ends in the buffer, each does
+pub fits_all : (len from rows cols pitch : ℕ) → 0 < rows → from + ((rows - 1) * pitch + cols) ≤ len → RectFits len from rows cols pitch
+fits_all len from rows cols pitch some_ end row lt = let up : row * pitch ≤ (rows - 1) * pitch = mul-le-mul_right pitch (omega arith) in omega arith

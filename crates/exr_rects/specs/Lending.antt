@@ -23,10 +23,25 @@ module _ {X : Type 0} where
   abbrev pub with_run : Sheet X → ℕ → List X → Sheet X
   with_run s at ws = record { at = s.at; len = s.len; items = overwritten s.items at ws; mine = s.mine; ok = (s.ok.0 ∙ sym (length-overwritten s.items at ws), s.ok.1); small = s.small }
 
+  -- the number of places of the sheet's buffer, an element for each of them, and which of them the sheet owns
+  abbrev pub sheet_len : Sheet X → ℕ
+  sheet_len s = s.len
+
+  abbrev pub sheet_items : Sheet X → List X
+  sheet_items s = s.items
+
+  abbrev pub sheet_marks : Sheet X → List Bool
+  sheet_marks s = s.mine
+
   -- both are of one buffer
   pub record SameBuffer (a b : Sheet X) : Type 0 where
     pub start : b.at ≡ a.at
     pub count : b.len ≡ a.len
+
+  -- b is of the buffer of a, and owns the same places
+  pub record Keeps (a b : Sheet X) : Type 0 where
+    pub one_buffer : SameBuffer a b
+    pub marks : b.mine ≡ a.mine
 
   -- `inside` is what `whole` has at the places that p names, and `rest` is what it has elsewhere
   pub record IsCut (p : ℕ → Bool) (whole inside rest : Sheet X) : Type 0 where
@@ -71,8 +86,7 @@ module _ {X : Type 0} where
 
   -- b is a with ws over its elements from place `at` on; it owns what a owns
   pub record IsWritten (a b : Sheet X) (at : ℕ) (ws : List X) : Type 0 where
-    pub one_buffer : SameBuffer a b
-    pub marks : b.mine ≡ a.mine
+    pub keeps : Keeps a b
     pub items : b.items ≡ overwritten a.items at ws
 
   -- the sheet owns the elements of the places from `at` to before `at + count`

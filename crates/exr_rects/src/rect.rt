@@ -1,5 +1,5 @@
 //! Rectangles of bytes: rows of equal length, one pitch apart.
-ghost use Rattle.std.specs.Prelude.{◌≡◌, ◌+◌, ◌*◌, ◌^◌, ◌<◌, ◌≤◌, length, map, take, drop, slice_index_or, slice_set, []};
+ghost use Rattle.std.specs.Prelude.{◌≡◌, ◌+◌, ◌*◌, ◌^◌, ◌<◌, ◌≤◌, length, map, take, drop, IsTrue, slice_index_or, slice_set, []};
 ghost use Rattle.exr_rects.specs.Marks.{MarksRect, RectFits, in_rect, overwritten};
 
 use crate::Sheet;
@@ -21,6 +21,23 @@ pub struct RectMut {
 impl RectMut {
     ghost use Rattle.exr_rects.specs.Lending.{IsCut, IsWritten};
     ghost use Rattle.exr_rects.specs.Rects.{rect_rows, SameRect};
+
+    /// Whether such a rectangle lies in a buffer of `len` bytes.
+    #[tactic(auto, using(crate::proofs::Rows::fits_all))]
+    pub fn fits(len: usize, from: usize, rows: usize, cols: usize, pitch: usize) -> bool
+        ensures { IsTrue result → RectFits len from rows cols pitch }
+    {
+        if rows == 0 {
+            return true;
+        }
+        let Some(last) = (rows - 1).checked_mul(pitch) else {
+            return false;
+        };
+        match last.checked_add(cols) {
+            Some(end) => from <= len && end <= len - from,
+            None => false,
+        }
+    }
 
     /// The rectangle of a sheet that owns its bytes.
     pub fn new(
