@@ -1,10 +1,10 @@
 -- What two sheets have together, and what a run is overwritten with, place by place; a sheet that was cut is whole again.
-use Rattle.std.proofs.Common.{◌≡◌, ℕ, zero, suc, ◌+◌, ◌-◌, ◌<◌, ◌≤◌, ◌⊎◌, List, [], ◌∷◌, length, get_or, refl, sym, ap, subst, ◌∙◌, Bool, true, false, arith}
+use Rattle.std.proofs.Common.{◌≡◌, ℕ, zero, suc, ◌+◌, ◌-◌, ◌*◌, ◌<◌, ◌≤◌, ◌⊎◌, List, [], ◌∷◌, length, get_or, refl, sym, ap, subst, ◌∙◌, Bool, true, false, arith}
 use mathlib.Core.Bool.{not, ◌&&◌, ◌||◌}
 use native.Mathlib.Nat.{not-suc-le-zero}
 use Rattle.std.specs.Prelude.{if◌then◌else◌}
 use Rattle.core.proofs.slots.Runs.{inside, outside}
-use Rattle.exr_rects.specs.Marks.{marks_in, marked, both_marks, both_items, overwritten}
+use Rattle.exr_rects.specs.Marks.{marks_in, marked, MarksRect, RectFits, both_marks, both_items, overwritten}
 use Rattle.exr_rects.specs.Lending.{SameBuffer, Keeps, IsWhole, IsCut, IsJoined, GivesBack}
 use Rattle.exr_rects.specs.declared.sheet.Sheet.{Sheet}
 use Rattle.exr_rects.proofs.Pieces.{overwritten_is}
@@ -29,6 +29,17 @@ both_or false false = refl
 pub marks_back : (p : ℕ → Bool) (k : ℕ) (ms : List Bool) → both_marks (marks_in p k ms) (marks_in (λ j. not (p j)) k ms) ≡ ms
 marks_back p k [] = refl
 marks_back p k (m ∷ ms) = let head = both_or (p k) m in let more = marks_back p (suc k) ms in λ i. head i ∷ more i
+
+both_swapped : (q m : Bool) → ((not q && m) || (q && m)) ≡ m
+both_swapped true true = refl
+both_swapped true false = refl
+both_swapped false true = refl
+both_swapped false false = refl
+
+-- the same the other way round
+pub marks_over : (p : ℕ → Bool) (k : ℕ) (ms : List Bool) → both_marks (marks_in (λ j. not (p j)) k ms) (marks_in p k ms) ≡ ms
+marks_over p k [] = refl
+marks_over p k (m ∷ ms) = let head = both_swapped (p k) m in let more = marks_over p (suc k) ms in λ i. head i ∷ more i
 
 module _ {X : Type 0} where
   -- an element of two sheets together is the first's where it is marked, and else the second's
@@ -55,6 +66,19 @@ module _ {X : Type 0} where
     one_buffer = record { start = j.one_buffer.start ∙ ka.one_buffer.start ∙ cut.one_buffer.0.start; count = j.one_buffer.count ∙ ka.one_buffer.count ∙ cut.one_buffer.0.count };
     marks = j.marks ∙ (λ i. both_marks ((ka.marks ∙ cut.inside_marks) i) ((kb.marks ∙ cut.rest_marks) i)) ∙ marks_back p 0 s.mine;
   }
+
+  pub joined_over : (p : ℕ → Bool) (s a b a' b' both : Sheet X) → IsCut p s a b → Keeps a a' → Keeps b b' → IsJoined b' a' both → Keeps s both
+  joined_over p s a b a' b' both cut ka kb j = record {
+    one_buffer = record { start = j.one_buffer.start ∙ kb.one_buffer.start ∙ cut.one_buffer.1.start; count = j.one_buffer.count ∙ kb.one_buffer.count ∙ cut.one_buffer.1.count };
+    marks = j.marks ∙ (λ i. both_marks ((kb.marks ∙ cut.rest_marks) i) ((ka.marks ∙ cut.inside_marks) i)) ∙ marks_over p 0 s.mine;
+  }
+
+  pub keeps_itself : (s : Sheet X) → Keeps s s
+  keeps_itself s = record { one_buffer = record { start = refl; count = refl }; marks = refl }
+
+  -- a whole sheet owns each rectangle that fits in it
+  pub whole_rect : (s : Sheet X) (from rows cols pitch : ℕ) → IsWhole s → RectFits s.len from rows cols pitch → MarksRect s.mine from rows cols pitch
+  whole_rect s from rows cols pitch whole fits row col r c = let end = fits row r in whole (from + (row * pitch + col)) (omega arith)
 
   -- two parts of one sheet are of one buffer
   pub parts_alike : (p : ℕ → Bool) (s a b a' b' : Sheet X) → IsCut p s a b → Keeps a a' → Keeps b b' → SameBuffer a' b'
