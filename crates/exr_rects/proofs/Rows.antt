@@ -126,12 +126,12 @@ pub in_rect_false : (from rows cols pitch k : ℕ) → ((row : ℕ) → row < ro
 in_rect_false from zero cols pitch k out = refl
 in_rect_false from (suc rows) cols pitch k out =
     let none : (leb from k && ltb k (from + cols)) ≡ false = elim (out 0 (omega arith)) [
-      inl lt ↦ (let low : k < from = omega (arith, zero-mul pitch) in grind (arith, nat_tests))
-    | inr le ↦ (let high : from + cols ≤ k = omega (arith, zero-mul pitch) in grind (arith, nat_tests))
+      | inl lt ↦ (let low : k < from = omega (arith, zero-mul pitch) in grind (arith, nat_tests))
+      | inr le ↦ (let high : from + cols ≤ k = omega (arith, zero-mul pitch) in grind (arith, nat_tests))
     ] in
     ap (λ b. b || in_rect (from + pitch) rows cols pitch k) none ∙ in_rect_false (from + pitch) rows cols pitch k (λ row lt. elim (out (suc row) (omega arith)) [
-      inl less ↦ inl (omega (arith, suc-mul row pitch))
-    | inr more ↦ inr (omega (arith, suc-mul row pitch))
+      | inl less ↦ inl (omega (arith, suc-mul row pitch))
+      | inr more ↦ inr (omega (arith, suc-mul row pitch))
     ])
 
 and_false : (b : Bool) → (b && false) ≡ false
@@ -173,10 +173,10 @@ module _ (ms : List Bool) (from rows cols pitch : ℕ) (inside : MarksRect ms fr
       let k = start + (row * pitch + col) in let begins : start ≡ from + at = is (omega arith) in
       let mine : marked ms k ≡ true = subst (λ (j : ℕ). marked ms j ≡ true) {x = from + (row * pitch + (at + col))} {y = k} (omega arith) (inside row (at + col) r (omega arith)) in
       rest_marked (in_rect from rows at pitch) k (in_rect_false from rows at pitch k (λ other lt. elim (cases_lt other row) [
-        inl up ↦ (let less : suc other * pitch ≤ row * pitch = mul-le-mul_right pitch up in let next = suc-mul other pitch in inr (omega arith))
-      | inr down ↦ elim (eq-or-lt_of_le down) [
-          inl same ↦ (let e' : row * pitch ≡ other * pitch = ap (λ (n : ℕ). n * pitch) same in inr (omega arith))
-        | inr past ↦ (let less : suc row * pitch ≤ other * pitch = mul-le-mul_right pitch past in let next = suc-mul row pitch in inl (omega arith))
+        | inl up ↦ (let less : suc other * pitch ≤ row * pitch = mul-le-mul_right pitch up in let next = suc-mul other pitch in inr (omega arith))
+        | inr down ↦ elim (eq-or-lt_of_le down) [
+          | inl same ↦ (let e' : row * pitch ≡ other * pitch = ap (λ (n : ℕ). n * pitch) same in inr (omega arith))
+          | inr past ↦ (let less : suc row * pitch ≤ other * pitch = mul-le-mul_right pitch past in let next = suc-mul row pitch in inl (omega arith))
         ]
       ])) mine
 

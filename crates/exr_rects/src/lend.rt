@@ -4,7 +4,7 @@ ghost use Rattle.exr_rects.specs.Lending.{IsAllOf, GivesBack, IsWhole, IsOfSlots
 ghost use Rattle.exr_rects.specs.declared.sheet.Sheet.{Sheet as Whole};
 
 use crate::Sheet;
-use core::slots::{with_slots, Slots};
+use core::slots::{Slots, with_slots};
 
 /// Calls `work` with all elements of `into` as one sheet, with what `state` points to and with `x`, and puts back what
 /// `work` returns: a sheet that owns all elements again, and the state.

@@ -40,13 +40,7 @@ impl RectMut {
     }
 
     /// The rectangle of a sheet that owns its bytes.
-    pub fn new(
-        sheet: Sheet<u8>,
-        from: usize,
-        rows: usize,
-        cols: usize,
-        pitch: usize,
-    ) -> RectMut
+    pub fn new(sheet: Sheet<u8>, from: usize, rows: usize, cols: usize, pitch: usize) -> RectMut
         requires inside { MarksRect sheet.mine from rows cols pitch }
         requires lies { RectFits sheet.len from rows cols pitch }
         requires apart { cols ≤ pitch }
@@ -184,11 +178,7 @@ fn row_start(from: usize, row: usize, rows: usize, pitch: usize) -> usize
     requires { row < rows → from + row * pitch < 2 ^ 64 }
     ensures { row < rows → result ≡ from + row * pitch }
 {
-    if row < rows {
-        from + row * pitch
-    } else {
-        from
-    }
+    if row < rows { from + row * pitch } else { from }
 }
 
 // Where the rows begin from column `col` on. Where there are none, they begin anywhere.
@@ -196,9 +186,5 @@ fn col_start(from: usize, col: usize, rows: usize) -> usize
     requires { 0 < rows → from + col < 2 ^ 64 }
     ensures { 0 < rows → result ≡ from + col }
 {
-    if rows > 0 {
-        from + col
-    } else {
-        from
-    }
+    if rows > 0 { from + col } else { from }
 }

@@ -79,8 +79,14 @@ module _ (E : El) where
         rewrite ! 0 (λ (p : Ptr). ‵ (pieces (R E) p e.items e.mine)) (sym at' ∙ ok.start ∙ at_b) refl $ keep ! (2 ∷ 0 ∷ 3 ∷ []) $
         let count = ok.count in let xs = d.ok.0 in let ms = d.ok.1 in let ys = e.ok.0 in let ns = e.ok.1 in
         let li : length e.items ≡ length d.items = omega arith in let lm : length d.mine ≡ length d.items = omega arith in let ln : length e.mine ≡ length d.items = omega arith in
-        let new : el_d E = record { at = d.at; len = n; items = both_items d.mine d.items e.items; mine = both_marks d.mine e.mine;
-          ok = (xs ∙ sym (length-both_items d.mine d.items e.items li), ms ∙ sym (length-both_marks d.mine e.mine (ln ∙ sym lm))); small = d.small } in
+        let new : el_d E = record {
+          at = d.at;
+          len = n;
+          items = both_items d.mine d.items e.items;
+          mine = both_marks d.mine e.mine;
+          ok = (xs ∙ sym (length-both_items d.mine d.items e.items li), ms ∙ sym (length-both_marks d.mine e.mine (ln ∙ sym lm)));
+          small = d.small;
+        } in
         use2 𝓛 (‵ (pieces (R E) (block_ptr b o) new.items new.mine)) (merged E 𝓛 b d.items e.items d.mine e.mine o li lm ln) $
         sheet_made E ! new b o at_b fn fit $
         let us : List Val = row_val b o n ∷ row_val b' o' e.len ∷ [] in
