@@ -8,14 +8,13 @@ use mathlib.Core.List.{List, [], ◌∷◌, ◌++◌}
 use lib.ListN.{length, get_or, take, drop, length-drop}
 use lib.Seq.{length-take-le}
 use seplogic.Ra.Ura.{Ura}
-use base.Fraction.{full_share}
 use base.Logic.{SProp, ent, sep, emp, via, snd∗, emp∗, id⊢, mono_r}
-use base.Fml.{Fml, Lft, ftrue, fsep}
+use base.Fml.{Fml, Lft, fsep}
 use types.Logic.{Logic, sem}
 use types.SemTy.{cells}
 use types.Kit.{‵, ◌⊛◌, ◌$◌, ◌∵◌, !, qed, by, move, keep, use1, use2, split, rewrite, fsplit, fjoin, frame, done}
 use types.Kit.{drop as skip}
-use denote.Memory.{part_at, mem}
+use denote.Memory.{mem}
 use denote.RawPtr.{block_ptr}
 use denote.Index.{place, place_is}
 use denote.Slice.{elements_shared}

@@ -1,6 +1,5 @@
-use Rattle.std.proofs.Common.{arith, ◌≡◌, sym, ap, ◌∙◌, subst}
-use Rattle.exr_rects.specs.Lending.{IsAllOf, GivesBack, IsWhole, IsOfSlots, IsSlotsOf}
-use Rattle.exr_rects.specs.declared.sheet.Sheet.{Sheet as Whole}
+use Rattle.std.proofs.Common.{arith, ap, ◌∙◌, subst}
+use Rattle.exr_rects.specs.Lending.{IsWhole, IsOfSlots, IsSlotsOf}
 use Rattle.exr_rects.proofs.lend.with_sheet.Goals as goal
 
 pub returns : goal.returns

@@ -1,4 +1,4 @@
-use Rattle.std.proofs.Common.{◌≡◌, sym, subst, ◌≤◌, arith}
+use Rattle.std.proofs.Common.{sym, subst, arith}
 use Rattle.exr_rects.specs.Lending.{Keeps}
 use Rattle.exr_rects.specs.Marks.{MarksRect}
 use Rattle.exr_rects.proofs.Rows.{marks_cut}

@@ -1,5 +1,5 @@
-use Rattle.std.proofs.Common.{◌≡◌, ℕ, sym, ap, subst, ◌≤◌, arith}
-use Rattle.exr_rects.specs.Lending.{Keeps, IsCut, SameBuffer, IsJoined}
+use Rattle.std.proofs.Common.{sym, subst, arith}
+use Rattle.exr_rects.specs.Lending.{Keeps}
 use Rattle.exr_rects.specs.Marks.{MarksRect}
 use Rattle.exr_rects.proofs.Rows.{marks_cut}
 use Rattle.exr_rects.proofs.Places.{joined_back, joined_over, keeps_itself, whole_rect}

@@ -1,5 +1,5 @@
-use Rattle.std.proofs.Common.{◌≡◌, sym, subst, ◌≤◌, ◌+◌, ◌*◌, ◌<◌, ℕ, arith}
-use Rattle.exr_rects.specs.Lending.{Keeps, SameBuffer}
+use Rattle.std.proofs.Common.{sym, subst, arith}
+use Rattle.exr_rects.specs.Lending.{Keeps}
 use Rattle.exr_rects.specs.Marks.{MarksRect}
 use Rattle.exr_rects.proofs.Rows.{marks_cut}
 use Rattle.exr_rects.proofs.Places.{joined_back, keeps_itself, whole_rect}

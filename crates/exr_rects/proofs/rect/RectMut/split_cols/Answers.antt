@@ -1,4 +1,4 @@
-use Rattle.std.proofs.Common.{◌≡◌, ℕ, ◌+◌, ◌-◌, ◌*◌, ◌<◌, ◌≤◌, sym, ap, subst, ◌∙◌, arith}
+use Rattle.std.proofs.Common.{◌≡◌, ◌+◌, ◌-◌, ◌<◌, ◌≤◌, sym, ap, subst, ◌∙◌, arith}
 use Rattle.exr_rects.specs.Marks.{MarksRect, rows_of}
 use Rattle.exr_rects.proofs.Rows.{marks_cut, marks_beside, cols_take, cols_drop}
 use Rattle.exr_rects.proofs.rect.RectMut.split_cols.Goals as goal

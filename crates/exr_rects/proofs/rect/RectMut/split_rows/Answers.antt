@@ -1,4 +1,4 @@
-use Rattle.std.proofs.Common.{◌≡◌, ℕ, ◌+◌, ◌-◌, ◌*◌, ◌<◌, ◌≤◌, sym, ap, subst, ◌∙◌, arith, take, drop}
+use Rattle.std.proofs.Common.{◌≡◌, ◌+◌, ◌-◌, ◌*◌, ◌<◌, ◌≤◌, sym, ap, subst, ◌∙◌, arith}
 use native.Mathlib.Nat.{add-mul}
 use Rattle.exr_rects.specs.Marks.{MarksRect, rows_of}
 use Rattle.exr_rects.proofs.Rows.{marks_cut, marks_below, rows_take, rows_drop}

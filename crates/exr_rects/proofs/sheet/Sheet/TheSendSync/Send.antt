@@ -3,7 +3,7 @@ use Rattle.std.specs.Prelude.{ℕ, ◌+◌, Bool, true, false, List, [], ◌∷�
 use base.Fraction.{full_share}
 use base.Shift.{Keyless}
 use denote.RattleType.{RattleType}
-use denote.RawPtr.{Ptr, block_ptr, null_ptr, in_block}
+use denote.RawPtr.{Ptr, block_ptr, null_ptr}
 use denote.Struct.Struct.{exits_of}
 use denote.Struct.Owning.{shape, fields, to}
 use denote.Param.Send.{IsSend, AllSend, part_keyless, owning_send, struct_send, sendable}

@@ -1,41 +1,36 @@
 -- `cut` writes the two words twice, and parts what the sheet owns. Assumes `Logic`.
-use mathlib.Core.Path.{◌≡◌, refl, sym, subst, ap, ◌∙◌}
-use Prim.Native.Nat.{ℕ, ◌+◌, ◌*◌, ◌<◌, ◌^◌}
-use native.Mathlib.Omega.{arith}
+use mathlib.Core.Path.{refl, sym, subst, ◌∙◌}
+use Prim.Native.Nat.{ℕ}
 use mathlib.Core.List.{List, [], ◌∷◌, ◌++◌}
 use mathlib.Core.Bool.{Bool, not}
-use lib.ListN.{length}
 use mir.Syntax.{Fn, w64}
-use mir.Val.{Val, vint, vptr}
+use mir.Val.{Val, vint}
 use seplogic.Ra.Ura.{Ura}
 use mir.MapTy.{inst_fn}
-use base.Fml.{ftrue, flft}
 use base.Logic.{SProp, ent, id⊢}
 use prog.Memory.{Memory}
 use prog.Routine.{Routine}
 use prog.Wp.{WpFn, Tables}
 use types.Logic.{Logic}
-use contract.BorrowLft.{◌⊑◌}
-use contract.Monad.{Fun, fact}
+use contract.Monad.{Fun}
 use contract.Running.{tables, tables_of}
 use denote.RattleType.{owns}
 use denote.Signature.{plain, types_at}
-use denote.Steps.{nothing, heard}
+use denote.Steps.{nothing}
 use denote.Triple.Clauses.{Clauses, Ended, closing}
 use denote.Triple.Spec.{Meets, triple_of}
 use denote.Triple.Table.{entered}
 use sound.WpLaws.{WpFn-mono}
-use types.Kit.{‵, raw, ◌⊛◌, ◌$◌, ◌∵◌, !, qed, move, keep, drop, use1, use2, split, rewrite, fsplit, fsplit3, fjoin, fjoin3, feq_l, flt_l, suffices, done}
+use types.Kit.{‵, raw, ◌⊛◌, ◌$◌, ◌∵◌, !, qed, move, keep, use1, use2, split, fsplit, fjoin, feq_l, flt_l, suffices, done}
 use types.Part.{whole, sub, agg}
 use types.Run.{stop, fld, of_opd, and_then, no_more, returns, enter}
 use types.ByLocal.{alloc_all, pass_all, free_all, look_at, get, get_in, sets}
 use denote.Exit.{no, yes}
 use denote.Builtin.{usize}
-use denote.RawPtr.{Ptr, block_ptr}
+use denote.RawPtr.{block_ptr}
 use denote.Triple.Entry.{alive}
 use denote.Triple.Walked.{says, Stays, stay_dropped, walk_of, ends_at, Goes-dropped, walk_Meets}
 use Rattle.core.proofs.mem.Param.{El, R, args}
-use Rattle.core.proofs.slots.Places.{sz}
 use Rattle.core.proofs.slots.Opens.{row_val}
 use Rattle.exr_rects.specs.Ownership.{pieces}
 use base.Logic.{sep}
@@ -47,7 +42,6 @@ use denote.Struct.Declared as Declared
 use denote.Struct.Tuple.{Tuple, tuple_type}
 use mir.Val.{vstruct, vcons, vnil}
 use Rattle.exr_rects.specs.Marks.{in_rect, marks_in}
-use Rattle.exr_rects.specs.Lending.{SameBuffer, IsCut}
 use Rattle.exr_rects.proofs.Pieces.{parted, length-marks_in}
 use Rattle.exr_rects.proofs.Sheets.{Sr, el_d, sheet_had, sheet_made}
 use Rattle.exr_rects.specs.contracts.sheet.Sheet.cut as F

@@ -1,7 +1,7 @@
 -- `into_slots` gives the pieces of a whole sheet back as a full row of slots. Assumes `Logic`.
-use Rattle.std.proofs.Common.{◌≡◌, ℕ, ◌+◌, ◌*◌, ◌^◌, ◌<◌, List, [], ◌∷◌, ◌++◌, length, sym, refl, ap, ◌∙◌, subst, arith, w64, Bool}
+use Rattle.std.proofs.Common.{◌≡◌, ℕ, ◌<◌, List, [], ◌∷◌, ◌++◌, length, sym, refl, ap, ◌∙◌, subst, arith, Bool}
 use mir.Syntax.{a_type}
-use mir.Val.{Val, vint, WT}
+use mir.Val.{Val, WT}
 use mir.MapTy.{inst_fn}
 use base.Logic.{SProp, ent, emp, id⊢}
 use base.Fml.{Lft, Share, ftrue, flft}
@@ -10,27 +10,24 @@ use contract.BorrowLft.{◌⊑◌}
 use contract.Monad.{fact, fact_i}
 use contract.Running.{tables}
 use types.Kit.{‵, raw, ◌⊛◌, some, given, later, at_ret, ◌$◌, ◌∵◌, !, qed, by, move, keep, split, join, fsplit, fjoin, pick, learn, use0, use1, use2, await, feq_l, flt_l}
-use types.Part.{agg, sub, whole}
+use types.Part.{sub, whole}
 use types.Run.{stop, fld, of_opd, no_more, and_then, first, blocks, exec, returns, enter}
 use types.ByLocal.{alloc_all, pass_all, free_all, look_at, get, get_in, sets, lands_last, is, env}
-use denote.RattleType.{RattleType, owns}
+use denote.RattleType.{owns}
 use denote.RawPtr.{Ptr, block_ptr}
 use denote.Exit.{no}
-use denote.Param.{param, layouts}
+use denote.Param.{layouts}
 use denote.Signature.{plain, types_at}
 use denote.Steps.{nothing, heard}
 use denote.Triple.Call.{calls_at_last}
 use denote.Triple.Walked.{Stays, stay_dropped, walk_of, Goes-dropped}
 use Rattle.core.proofs.atomic.Steps.{fm, tail}
 use Rattle.std.proofs.raw_atomic.Walks.{proved_at, leaves}
-use Rattle.core.proofs.mem.Param.{El, R}
+use Rattle.core.proofs.mem.Param.{El}
 use Rattle.core.proofs.slots.Opens.{row_val}
-use Rattle.core.specs.Mem.Slots.{slots_items, slots_filled, slots_ptr, slots_len, slots_counts, slots_small, IsFull}
-use Rattle.core.specs.Mem.Slots.Ownership.{slots}
-use Rattle.exr_rects.specs.Ownership.{pieces}
-use Rattle.exr_rects.specs.contracts.sheet.Sheet as sheets
-use Rattle.exr_rects.proofs.Sheets.{Sr, el_d, sheet_had, sheet_made}
-use Rattle.exr_rects.proofs.Raw.{Row, all as places, parts_typed, row_Typed, Row-seen, Into, at_into, Into-goes, Into-gives, From, at_from, Made, from_goes, from_gives}
+use Rattle.core.specs.Mem.Slots.{IsFull}
+use Rattle.exr_rects.proofs.Sheets.{Sr, el_d, sheet_had}
+use Rattle.exr_rects.proofs.Raw.{Row, all as places, row_Typed, From, at_from, Made, from_goes, from_gives}
 use Rattle.core.proofs.slots.Slots.from_raw_parts.Met as callee
 use Rattle.exr_rects.specs.Lending.{IsWhole, IsSlotsOf}
 use Rattle.exr_rects.proofs.Pieces.{to_slots}

@@ -1,15 +1,13 @@
 -- `join` keeps the two words of the first sheet, and what the two own lies side by side. Assumes `Logic`.
-use mathlib.Core.Path.{◌≡◌, refl, sym, subst, ap, ◌∙◌}
-use Prim.Native.Nat.{ℕ, ◌+◌, ◌*◌, ◌<◌, ◌^◌}
+use mathlib.Core.Path.{◌≡◌, refl, sym, subst, ◌∙◌}
+use Prim.Native.Nat.{ℕ}
 use native.Mathlib.Omega.{arith}
 use mathlib.Core.List.{List, [], ◌∷◌, ◌++◌}
-use mathlib.Core.Bool.{Bool, not}
 use lib.ListN.{length}
-use mir.Syntax.{Fn, w64}
-use mir.Val.{Val, vint, vptr}
+use mir.Syntax.{Fn}
+use mir.Val.{Val}
 use seplogic.Ra.Ura.{Ura}
 use mir.MapTy.{inst_fn}
-use base.Fml.{ftrue, flft}
 use base.Logic.{SProp, ent, id⊢}
 use prog.Memory.{Memory}
 use prog.Routine.{Routine}
@@ -25,21 +23,19 @@ use denote.Triple.Clauses.{Clauses, Ended, closing}
 use denote.Triple.Spec.{Meets, triple_of}
 use denote.Triple.Table.{entered}
 use sound.WpLaws.{WpFn-mono}
-use types.Kit.{‵, raw, ◌⊛◌, ◌$◌, ◌∵◌, !, qed, move, keep, drop, use1, use2, split, rewrite, fsplit, fsplit3, fjoin, fjoin3, feq_l, flt_l, suffices, done}
+use types.Kit.{‵, raw, ◌⊛◌, ◌$◌, ◌∵◌, !, qed, move, keep, drop, use2, split, rewrite, fsplit, fjoin3, suffices, done}
 use types.Part.{whole, sub, agg}
 use types.Run.{stop, fld, of_opd, and_then, no_more, returns, enter}
 use types.ByLocal.{alloc_all, pass_all, free_all, look_at, get, get_in, sets}
-use denote.Exit.{no, yes}
-use denote.Builtin.{usize}
+use denote.Exit.{no}
 use denote.RawPtr.{Ptr, block_ptr}
 use denote.Triple.Entry.{alive}
 use denote.Triple.Walked.{says, Stays, stay_dropped, walk_of, ends_at, Goes-dropped, walk_Meets}
 use Rattle.core.proofs.mem.Param.{El, R, args}
-use Rattle.core.proofs.slots.Places.{sz}
 use Rattle.core.proofs.slots.Opens.{row_val}
 use Rattle.exr_rects.specs.Ownership.{pieces}
 use Rattle.exr_rects.specs.Marks.{both_items, both_marks}
-use Rattle.exr_rects.specs.Lending.{SameBuffer, IsJoined}
+use Rattle.exr_rects.specs.Lending.{SameBuffer}
 use Rattle.exr_rects.proofs.Pieces.{merged, length-both_items, length-both_marks}
 use Rattle.exr_rects.proofs.Sheets.{Sr, el_d, sheet_had, sheet_made}
 use Rattle.exr_rects.specs.contracts.sheet.Sheet.join as F

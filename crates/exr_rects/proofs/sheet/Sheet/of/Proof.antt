@@ -1,7 +1,7 @@
 -- `of` takes the two words of a row of slots, and of its places those that hold a value. Assumes `Logic`.
-use Rattle.std.proofs.Common.{◌≡◌, ℕ, ◌+◌, ◌*◌, ◌^◌, ◌<◌, List, [], ◌∷◌, ◌++◌, length, sym, refl, ap, ◌∙◌, subst, arith, w64, Bool}
+use Rattle.std.proofs.Common.{◌≡◌, ℕ, List, [], ◌∷◌, ◌++◌, sym, refl, subst, Bool}
 use mir.Syntax.{a_type}
-use mir.Val.{Val, vint, WT}
+use mir.Val.{Val, WT}
 use mir.MapTy.{inst_fn}
 use base.Logic.{SProp, ent, emp, id⊢}
 use base.Fml.{Lft, Share, ftrue, flft}
@@ -13,10 +13,10 @@ use types.Kit.{‵, raw, ◌⊛◌, some, given, later, at_ret, ◌$◌, ◌∵�
 use types.Part.{agg, sub, whole}
 use types.Run.{stop, fld, of_opd, no_more, and_then, first, blocks, exec, returns, enter}
 use types.ByLocal.{alloc_all, pass_all, free_all, look_at, get, get_in, sets, lands_last, is, env}
-use denote.RattleType.{RattleType, owns}
+use denote.RattleType.{owns}
 use denote.RawPtr.{Ptr, block_ptr}
 use denote.Exit.{no}
-use denote.Param.{param, layouts}
+use denote.Param.{layouts}
 use denote.Signature.{plain, types_at}
 use denote.Steps.{nothing, heard}
 use denote.Triple.Call.{calls_at_last}
@@ -25,12 +25,10 @@ use Rattle.core.proofs.atomic.Steps.{fm, tail}
 use Rattle.std.proofs.raw_atomic.Walks.{proved_at, leaves}
 use Rattle.core.proofs.mem.Param.{El, R}
 use Rattle.core.proofs.slots.Opens.{row_val}
-use Rattle.core.specs.Mem.Slots.{slots_items, slots_filled, slots_ptr, slots_len, slots_counts, slots_small, IsFull}
-use Rattle.core.specs.Mem.Slots.Ownership.{slots}
+use Rattle.core.specs.Mem.Slots.{slots_items, slots_filled, slots_len, slots_counts, slots_small}
 use Rattle.exr_rects.specs.Ownership.{pieces}
-use Rattle.exr_rects.specs.contracts.sheet.Sheet as sheets
-use Rattle.exr_rects.proofs.Sheets.{Sr, el_d, sheet_had, sheet_made}
-use Rattle.exr_rects.proofs.Raw.{Row, all as places, parts_typed, row_Typed, Row-seen, Into, at_into, Into-goes, Into-gives, From, at_from, Made, from_goes, from_gives}
+use Rattle.exr_rects.proofs.Sheets.{el_d, sheet_made}
+use Rattle.exr_rects.proofs.Raw.{Row, all as places, parts_typed, Row-seen, Into, at_into, Into-goes, Into-gives}
 use Rattle.core.proofs.slots.Slots.into_raw_parts.Met as callee
 use Rattle.exr_rects.specs.Lending.{IsOfSlots}
 use Rattle.exr_rects.proofs.Pieces.{of_slots}

@@ -1,22 +1,21 @@
 -- `run` shows a run of the elements that a sheet owns. Assumes `Logic`.
 use mathlib.Core.Path.{◌≡◌, refl, sym, subst, ap, ◌∙◌}
-use mathlib.Core.Bool.{Bool, true, false}
+use mathlib.Core.Bool.{true, false}
 use Prim.Native.Nat.{ℕ, ◌+◌, ◌*◌, ◌<◌, ◌≤◌, ◌^◌}
 use native.Mathlib.Omega.{arith}
 use mathlib.Core.List.{List, [], ◌∷◌}
-use lib.ListN.{length, get_or, length-drop}
+use lib.ListN.{length, get_or}
 use lib.Seq.{get_or-drop}
-use base.Fraction.{full_share}
 use mir.Syntax.{Fn, w64, named}
 use mir.Val.{Val, vint, vptr}
-use base.Fml.{GName, Fml, Lft, Share, ftrue, fsep, flt, flft}
+use base.Fml.{ftrue, flt, flft}
 use seplogic.Ra.Ura.{Ura}
 use mir.MapTy.{inst_fn}
-use base.Logic.{SProp, ent, sep}
+use base.Logic.{SProp, ent}
 use prog.Memory.{Memory}
 use prog.Routine.{Routine}
 use prog.Wp.{Env, WpFn, Tables}
-use types.Logic.{Logic, sem}
+use types.Logic.{Logic}
 use contract.BorrowLft.{◌⊑◌}
 use contract.Monad.{Fun, fact}
 use contract.Running.{tables, tables_of}
@@ -27,21 +26,20 @@ use denote.Triple.Clauses.{Clauses, Ended, closing}
 use denote.Triple.Spec.{Meets, triple_of}
 use denote.Triple.Table.{entered}
 use sound.WpLaws.{WpFn-mono}
-use types.Kit.{‵, raw, ◌⊛◌, some, later, at_ret, ◌$◌, ◌∵◌, !, qed, by, move, keep, use1, use2, drop, split, split3, join, pick, rewrite, fsplit, fsplit3, fjoin, fpack, feq_i, flt_l, flt_i, suffices, frame, await, group, done}
-use types.Part.{whole, sub, look_in, agg}
+use types.Kit.{‵, raw, ◌⊛◌, at_ret, ◌$◌, ◌∵◌, !, qed, move, keep, use1, drop, split, split3, join, fsplit, fjoin, feq_i, flt_l, flt_i, suffices, done}
+use types.Part.{agg}
 use types.Run.{stop, fld, load, look, of_opd, bin, size_word, and_then, no_more, first, blocks, exec, returns, enter}
 use types.ByLocal.{alloc_all, pass_all, free_all, look_at, get, through, sets, sets_last, is, env}
-use denote.Exit.{yes, no}
+use denote.Exit.{yes}
 use denote.Plain.{uint_vals, uint_Tells}
-use denote.RawPtr.{Ptr, RawPtr, block_ptr, in_a_block}
-use denote.Triple.Walked.{says, Stays, stay_dropped, walk_of, ends_at, walked, Goes-dropped, Goes-spent_ref, walk_Meets}
+use denote.RawPtr.{RawPtr, in_a_block}
+use denote.Triple.Walked.{says, Stays, stay_dropped, walk_of, ends_at, walked, Goes-dropped, walk_Meets}
 use Rattle.core.proofs.mem.Param.{El, R, args, el_x}
 use Rattle.core.proofs.ptr.Rows.{times_below}
 use Rattle.core.proofs.slots.Bodies.{after}
 use Rattle.core.proofs.slots.Leases.{uncapped}
 use Rattle.core.proofs.slots.Places.{sz}
-use Rattle.core.proofs.slots.Runs.{run, run_long, in_run}
-use Rattle.core.proofs.slots.Opens.{row_val}
+use Rattle.core.proofs.slots.Runs.{run, run_long}
 use denote.Builtin.{usize, RefOf}
 use denote.Memory.{hidden_shr}
 use denote.Opens.{hide}

@@ -4,12 +4,11 @@ use mathlib.Core.Bool.{Bool, true, false}
 use Prim.Native.Nat.{ℕ, ◌+◌, ◌*◌, ◌<◌, ◌≤◌, ◌^◌}
 use native.Mathlib.Omega.{arith}
 use mathlib.Core.List.{List, [], ◌∷◌}
-use lib.ListN.{length, get_or, length-drop}
-use lib.Seq.{get_or-drop}
+use lib.ListN.{length, get_or}
 use base.Fraction.{full_share}
 use mir.Syntax.{Fn, w64, named}
 use mir.Val.{Val, vint, vptr}
-use base.Fml.{GName, Fml, Lft, Share, ftrue, fsep, flt, flft}
+use base.Fml.{GName, Fml, ftrue, fsep, flft}
 use seplogic.Ra.Ura.{Ura}
 use mir.MapTy.{inst_fn}
 use base.Logic.{SProp, ent, sep}
@@ -27,13 +26,13 @@ use denote.Triple.Clauses.{Clauses, Ended, closing}
 use denote.Triple.Spec.{Meets, triple_of}
 use denote.Triple.Table.{entered}
 use sound.WpLaws.{WpFn-mono}
-use types.Kit.{‵, raw, ◌⊛◌, some, later, at_ret, ◌$◌, ◌∵◌, !, qed, by, move, keep, use1, use2, drop, split, split3, join, pick, rewrite, fsplit, fsplit3, fjoin, fpack, feq_i, flt_l, flt_i, suffices, frame, await, group, done}
+use types.Kit.{‵, raw, ◌⊛◌, some, later, at_ret, ◌$◌, ◌∵◌, !, qed, by, move, keep, use1, use2, drop, split, split3, join, pick, rewrite, fsplit, fsplit3, fjoin, fpack, suffices, frame, await, group, done}
 use types.Part.{whole, sub, look_in, agg}
-use types.Run.{stop, fld, load, look, of_opd, bin, size_word, and_then, no_more, first, blocks, exec, returns, enter}
+use types.Run.{stop, fld, load, of_opd, bin, size_word, and_then, no_more, first, blocks, exec, returns, enter}
 use types.ByLocal.{alloc_all, pass_all, free_all, look_at, get, through, sets, sets_last, is, env}
 use denote.Exit.{yes, no}
 use denote.Plain.{uint_vals, uint_Tells}
-use denote.RawPtr.{Ptr, RawPtr, block_ptr, in_a_block}
+use denote.RawPtr.{block_ptr}
 use denote.Triple.Walked.{says, Stays, stay_dropped, walk_of, ends_at, walked, Goes-dropped, Goes-spent_ref, walk_Meets}
 use Rattle.core.proofs.mem.Param.{El, R, args, el_x}
 use Rattle.core.proofs.ptr.Rows.{times_below}
@@ -49,7 +48,6 @@ use denote.FollowSlice.{Elements, lends_Elements}
 use denote.Memory.{cell_at, part_of, mem}
 use denote.Ref.{MutBor, mut_vals, mut_Tells}
 use denote.Slice.{MutSlice, slice_val}
-use denote.Ref.{MutRef}
 use types.SemTy.{cells}
 use Rattle.exr_rects.specs.Ownership.{pieces}
 use Rattle.exr_rects.specs.Lending.{with_run, OwnsRun}
