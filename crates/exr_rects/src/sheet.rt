@@ -11,8 +11,9 @@ use std::slice;
 
 /// A buffer of `len` elements at `at`, of which a part is owned: the elements that `mine` marks.
 ///
-/// `items` has a value for each element of the buffer. At a place that is not marked it is no more than the value that
-/// was there when the sheet was made: another sheet owns the element, and nothing here reads or writes it.
+/// Several sheets share one pointer. What keeps them apart is proved: for an element that is marked, the sheet owns the
+/// memory whole, and no two owners of it exist; for one that is not, it owns nothing, and no call below can reach it.
+/// `items` has a value for each element of the buffer. At a place that is not marked it says nothing about the memory.
 #[derive(Drop)]
 pub struct Sheet<T> {
     at: *mut T,
@@ -29,12 +30,13 @@ impl<T> Model for Sheet<T> {
     ghost also_shares = { λ s _ κ. lent T.row s.at s.len s.items s.mine κ };
 }
 
-/// A sheet may go to another thread: what it owns is nobody else's.
+// A sheet may go to another thread where its elements may: the memory that it owns is nobody else's. There is no `Sync`.
 unsafe impl<T: Send> Send for Sheet<T> {}
 
 impl<T> Sheet<T> {
     ghost use Rattle.exr_rects.specs.Lending.{lends_run, SameBuffer, IsOfSlots, IsSlotsOf, IsCut, IsJoined, IsWhole, OwnsRun};
 
+    // The pointer and the count of the slots. No memory is read; an element that the slots do not hold is not marked.
     pub(crate) fn of(row: Slots<T>) -> Sheet<T>
         ensures { IsOfSlots result row }
     {
@@ -45,6 +47,7 @@ impl<T> Sheet<T> {
         }
     }
 
+    // The slots get the pointer and the count back. All elements are marked, so each slot has its value.
     pub(crate) fn into_slots(self) -> Slots<T>
         requires { IsWhole self }
         ensures { IsSlotsOf result self }
@@ -53,7 +56,11 @@ impl<T> Sheet<T> {
         unsafe { Slots::from_raw_parts(at, len) }
     }
 
-    /// The rectangle's elements as one sheet, and the others as another.
+    /// Cuts out a rectangle: a sheet of the elements of it that this sheet owns, and a sheet of the others.
+    ///
+    /// The rectangle has `rows` rows of `cols` elements, of which the first begins at place `from`, and each other `pitch`
+    /// places after the one before it. Nothing is done at run time: both sheets get the pointer, and the proof shares out
+    /// the memory between them, each element to exactly one.
     pub fn cut(self, from: usize, rows: usize, cols: usize, pitch: usize) -> (Sheet<T>, Sheet<T>)
         ensures { IsCut (in_rect from rows cols pitch) self result.0 result.1 }
     {
@@ -61,7 +68,9 @@ impl<T> Sheet<T> {
         (Sheet { at, len }, Sheet { at, len })
     }
 
-    /// Two sheets of one buffer as one.
+    /// Joins two sheets of one buffer: a sheet that owns what either owns.
+    ///
+    /// Nothing is read or written. The pointers are equal by `requires`, so the pointer of either will do.
     pub fn join(self, other: Sheet<T>) -> Sheet<T>
         requires { SameBuffer self other }
         ensures { IsJoined self other result }
@@ -71,7 +80,10 @@ impl<T> Sheet<T> {
         Sheet { at, len }
     }
 
-    /// The `count` elements from place `at` on.
+    /// The `count` elements from place `at` on, `count` at least 1.
+    ///
+    /// `at + count` is at most `len`, so the pointer stays within the buffer's block, and the elements are owned, so they
+    /// hold values and nobody writes them while the slice is there.
     pub fn run(&self, at: usize, count: usize) -> &[T]
         requires { (0 < count) × (at + count ≤ self.now.len) × OwnsRun self.now at count }
         ensures { result.now ≡ take count (drop at self.now.items) }
@@ -80,6 +92,9 @@ impl<T> Sheet<T> {
     }
 
     /// The `count` elements from place `at` on, to be written.
+    ///
+    /// The elements are owned and the sheet is lent for as long as the slice is there, so nobody else reads or writes
+    /// them. When the loan ends, the sheet has at these places what was written through the slice.
     pub fn run_mut(&mut self, at: usize, count: usize) -> &mut [T]
         requires { (at + count ≤ self.old.len) × OwnsRun self.old at count }
         ensures* writes_back { sem 𝓛 (lends_run T.row self.entry at result) }
