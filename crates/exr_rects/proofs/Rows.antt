@@ -183,3 +183,6 @@ module _ (ms : List Bool) (from rows cols pitch : ℕ) (inside : MarksRect ms fr
 -- where the last row ends in the buffer, each does
 pub fits_all : (len from rows cols pitch : ℕ) → 0 < rows → from + ((rows - 1) * pitch + cols) ≤ len → RectFits len from rows cols pitch
 fits_all len from rows cols pitch some_ end row lt = let up : row * pitch ≤ (rows - 1) * pitch = mul-le-mul_right pitch (omega arith) in omega arith
+
+pub last_fits : (len from rows cols pitch : ℕ) → 0 < rows → RectFits len from rows cols pitch → from + ((rows - 1) * pitch + cols) ≤ len
+last_fits len from rows cols pitch some_ fits = fits (rows - 1) (omega arith)

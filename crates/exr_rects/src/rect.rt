@@ -1,5 +1,5 @@
 //! Rectangles of bytes: rows of equal length, one pitch apart.
-ghost use Rattle.std.specs.Prelude.{◌≡◌, ◌+◌, ◌*◌, ◌^◌, ◌<◌, ◌≤◌, length, map, take, drop, IsTrue, slice_index_or, slice_set, []};
+ghost use Rattle.std.specs.Prelude.{◌≡◌, ◌+◌, ◌*◌, ◌^◌, ◌<◌, ◌≤◌, length, map, take, drop, IsTrue, ◌↔◌, slice_index_or, slice_set, []};
 ghost use Rattle.exr_rects.specs.Marks.{MarksRect, RectFits, in_rect, overwritten};
 
 use crate::Sheet;
@@ -23,9 +23,9 @@ impl RectMut {
     ghost use Rattle.exr_rects.specs.Rects.{rect_rows, SameRect};
 
     /// Whether such a rectangle lies in a buffer of `len` bytes.
-    #[tactic(auto, using(crate::proofs::Rows::fits_all))]
+    #[tactic(auto, using(crate::proofs::Rows::fits_all, crate::proofs::Rows::last_fits))]
     pub fn fits(len: usize, from: usize, rows: usize, cols: usize, pitch: usize) -> bool
-        ensures { IsTrue result → RectFits len from rows cols pitch }
+        ensures { IsTrue result ↔ RectFits len from rows cols pitch }
     {
         if rows == 0 {
             return true;
