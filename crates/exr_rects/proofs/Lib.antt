@@ -1,0 +1,5 @@
+mod Pieces
+pub mod Places
+mod Raw
+pub mod Rows
+mod Sheets
