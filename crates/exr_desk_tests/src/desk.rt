@@ -1,0 +1,184 @@
+//! Files of three chunks, whose table entries are in falling order.
+
+ghost use Rattle.std.specs.Prelude.{◌≡◌, ◌×◌, [], IfOk, length};
+ghost use Rattle.exr_desk.specs.File.{IsFront};
+
+use exr_base::Refusal;
+use exr_desk::{
+    Desk, DeskCause, DeskOpenStop, DeskStop, Front, Packed, Placed, TwiceChunk, WriteFault,
+};
+use exr_outside::{MemSink, Printer};
+use std::alloc::{AllocError, Global};
+use std::process::Abort;
+use std::test::Fail;
+
+const CHUNKS: [&[u8]; 3] = [b"aaa", b"b", b"cc"];
+
+/// The front alone, the whole file, and the front with entries filled in.
+const FRONT: &[u8] = b"hd\0\0\0\0\0\0\0\0\0\0\0\0\0\0\0\0\0\0\0\0\0\0\0\0";
+
+const WHOLE: &[u8] = b"hd\x1e\0\0\0\0\0\0\0\x1d\0\0\0\0\0\0\0\x1a\0\0\0\0\0\0\0aaabcc";
+
+/// What is put at which turn, and what each put answers: where the chunk is, or the word of a turn that has one.
+type Puts = &'static [(u32, Result<Placed, u64>)];
+
+struct Case {
+    /// The room of the sink, and its calls of `append` and of `write_at` that are to fail.
+    room: usize,
+    appends: &'static [u64],
+    writes: &'static [u64],
+    puts: Puts,
+    /// How finishing ends, and what the sink holds then.
+    end: Result<(), DeskCause>,
+    held: &'static [u8],
+}
+
+const WAITS: Result<Placed, u64> = Ok(Placed::Waits { turn: 0 });
+
+const WRITTEN: Result<Placed, u64> = Ok(Placed::Written);
+
+const BROKEN: Result<Placed, u64> = Ok(Placed::Broken { faults: 1 });
+
+const CASES: [Case; 7] = [
+    // The last turn first, and a turn twice: while it waits, and when it was written.
+    Case {
+        room: 99,
+        appends: &[],
+        writes: &[],
+        puts: &[(2, WAITS), (1, WAITS), (1, Err(2)), (0, WRITTEN), (0, Err(4))],
+        end: Ok(()),
+        held: WHOLE,
+    },
+    // In order.
+    Case {
+        room: 32,
+        appends: &[],
+        writes: &[],
+        puts: &[(0, WRITTEN), (1, WRITTEN), (2, WRITTEN)],
+        end: Ok(()),
+        held: WHOLE,
+    },
+    // Turn 1 is missing.
+    Case {
+        room: 99,
+        appends: &[],
+        writes: &[],
+        puts: &[(0, WRITTEN), (2, Ok(Placed::Waits { turn: 1 }))],
+        end: Err(DeskCause::Missing { turn: 1 }),
+        held: b"hd\0\0\0\0\0\0\0\0\0\0\0\0\0\0\0\0\0\0\0\0\0\0\0\0aaa",
+    },
+    // Nothing was put.
+    Case {
+        room: 99,
+        appends: &[],
+        writes: &[],
+        puts: &[],
+        end: Err(DeskCause::Missing { turn: 0 }),
+        held: FRONT,
+    },
+    // The first chunk's append fails.
+    Case {
+        room: 99,
+        appends: &[1],
+        writes: &[],
+        puts: &[(0, BROKEN), (0, Err(4)), (1, BROKEN), (1, Err(2)), (2, BROKEN)],
+        end: Err(DeskCause::WriteFault { at: 26 }),
+        held: FRONT,
+    },
+    // Room for the front and two bytes of the first chunk.
+    Case {
+        room: 28,
+        appends: &[],
+        writes: &[],
+        puts: &[(1, WAITS), (0, BROKEN), (2, BROKEN)],
+        end: Err(DeskCause::WriteFault { at: 28 }),
+        held: b"hd\0\0\0\0\0\0\0\0\0\0\0\0\0\0\0\0\0\0\0\0\0\0\0\0aa",
+    },
+    // The write of the tables fails.
+    Case {
+        room: 99,
+        appends: &[],
+        writes: &[0],
+        puts: &[(1, WAITS), (0, WRITTEN), (2, WRITTEN)],
+        end: Err(DeskCause::WriteFault { at: 32 }),
+        held: b"hd\0\0\0\0\0\0\0\0\0\0\0\0\0\0\0\0\0\0\0\0\0\0\0\0aaabcc",
+    },
+];
+
+/// A front of two bytes and a table of three entries, that of turn 0 the last.
+fn front(alloc: Global) -> Result<Front, AllocError>
+    ensures { IfOk result (λ front. IsFront front.bytes.items front.entries.items × (length front.entries.items ≡ 3)) }
+{
+    let entries = vec![in alloc; 18u64, 10, 2]?;
+    let mut bytes = vec![in alloc; 0u8; 26]?;
+    bytes[0] = b'h';
+    bytes[1] = b'd';
+    Ok(Front { bytes, entries })
+}
+
+/// A sink with room for some bytes, and the calls of `append` and of `write_at` that are to fail.
+fn sink(alloc: Global, room: usize, appends: &[u64], writes: &[u64]) -> Result<MemSink, Fail>
+    ensures { IfOk result (λ sink. sink.bytes ≡ []) }
+{
+    let appends = appends.to_vec(alloc)?;
+    let writes = writes.to_vec(alloc)?;
+    Ok(MemSink::new(alloc, "out", room, appends, writes)?)
+}
+
+/// Puts chunks at their turns, and compares the answers.
+fn put_all(rt: &impl Abort, alloc: Global, desk: &mut Desk<MemSink>, puts: Puts)
+    requires { length desk.old.entries ≡ 3 }
+{
+    for (turn, answer) in puts {
+        let turn = *turn;
+        assert!(rt; turn < 3);
+        let bytes = CHUNKS[turn as usize].to_vec(alloc).expect(rt, "memory");
+        assert!(rt; bytes.len() <= 3);
+        match desk.put(turn, Packed { bytes }) {
+            Ok(placed) => assert_eq!(rt; Ok(placed), *answer, "turn {turn}"),
+            Err(TwiceChunk { word, chunk }) => {
+                assert_eq!(rt; Err(word), *answer, "turn {turn}");
+                assert_eq!(rt; chunk.bytes.as_slice(), CHUNKS[turn as usize]);
+            }
+        }
+    }
+}
+
+fn try_case(rt: &impl Abort, alloc: Global, case: &Case) -> Result<(), Fail> {
+    let sink = sink(alloc, case.room, case.appends, case.writes)?;
+    let mut desk = match Desk::open(alloc, front(alloc)?, sink) {
+        Ok(desk) => desk,
+        Err(DeskOpenStop { sink: _, cause: _ }) => return Err("not opened".into()),
+    };
+    put_all(rt, alloc, &mut desk, case.puts);
+    let (end, sink) = match desk.finish() {
+        Ok(sink) => (Ok(()), sink),
+        Err(DeskStop { sink, cause }) => (Err(cause), sink),
+    };
+    assert_eq!(rt; end, case.end);
+    assert_eq!(rt; sink.bytes(), case.held);
+    Ok(())
+}
+
+#[test]
+fn chunks_are_put_and_the_file_is_finished(rt: HostRuntime) -> Result<(), Fail> {
+    for case in &CASES {
+        try_case(&rt, rt.alloc(), case)?;
+    }
+    Ok(())
+}
+
+#[test]
+fn a_front_that_is_not_written(rt: HostRuntime) -> Result<(), Fail> {
+    let alloc = rt.alloc();
+    for (room, at) in [(0, 0), (5, 5)] {
+        let sink = sink(alloc, room, &[], &[])?;
+        let Err(DeskOpenStop { sink, cause }) = Desk::open(alloc, front(alloc)?, sink) else {
+            return Err("opened".into());
+        };
+        assert_eq!(rt; cause, Refusal::Fault(WriteFault { at }));
+        assert_eq!(rt; sink.bytes().len() as u64, at);
+        assert_eq!(rt; sink.faults(), 1);
+    }
+    Ok(())
+}
