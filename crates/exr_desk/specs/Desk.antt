@@ -130,4 +130,4 @@ IsSettledBut turn d = d.broken ≡ false → d.free ≡ true → (u : ℕ) → C
 
 -- one chunk more was taken to be written, or there was none to write
 abbrev pub WritesNext : {S : Type 0} → Bool → DeskState S → DeskState S → Type 0
-WritesNext more old new = MatchBool more (new.taken ≡ old.taken ++ length old.taken ∷ []) ((new ≡ old) × IsSettled old)
+WritesNext more old new = MatchBool more ((length old.taken < length old.entries) × (new.taken ≡ old.taken ++ length old.taken ∷ [])) ((new ≡ old) × IsSettled old)

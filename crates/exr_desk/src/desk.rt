@@ -23,13 +23,13 @@ pub struct Desk<K: Sink> {
 }
 
 impl<K: Sink> Model for Desk<K> {
-    ghost use Rattle.exr_desk.specs.Desk.{DeskState, IsSettled};
+    ghost use Rattle.exr_desk.specs.Desk.{DeskState, IsDesk, IsSettled};
 
     ghost Value = { DeskState K };
 
     ghost view = { λ d. d.filing };
 
-    ghost invariant = { λ d. IsSettled d.filing };
+    ghost invariant = { λ d. IsDesk K.means d.filing × IsSettled d.filing };
 }
 
 impl<K: Sink> Desk<K> {

@@ -59,6 +59,7 @@ impl<K: Sink> Filing<K> {
     pub fn open(alloc: Global, front: Front, mut sink: K) -> Result<Filing<K>, DeskOpenStop<K>>
         requires front { IsFront front.bytes.items front.entries.items }
         requires empty { IsTrue K.means.tells → K.means.holds sink ≡ [] }
+        ensures desk { IfOk result (IsDesk K.means) }
         ensures opened { IfOk result (λ filing. filing ≡ desk_of front.bytes.items front.entries.items front.free (K.means.faults sink) [] [] false filing.sink) }
         ensures cause { IfErr result (λ stop. IsOpenStop K.means sink stop.cause stop.sink) }
         ensures partial { IsTrue K.means.tells → IfErr result (λ stop. IsPartial front.bytes.items front.entries.items front.free [] [] (K.means.holds stop.sink)) }
@@ -195,6 +196,8 @@ impl<K: Sink> Filing<K> {
         requires accepted { IsSome (chunk_of self.now.accepted turn) }
         requires settled { IsSettled self.now }
         ensures placed { IsAt K.means self.now turn result }
+        // What holds of each desk.
+        ensures desk { IsDesk K.means self.now }
     {
         if self.broken {
             let faults = rise(self.begun, self.sink.faults());
