@@ -90,3 +90,9 @@ replaced-front front rest bytes fits =
     ap (λ (n : ℕ). bytes ++ drop n (front ++ rest)) same
     ∙ ap (λ (l : List ℕ). bytes ++ l) (drop-append-le (length bytes) front rest fits)
     ∙ sym (append_assoc bytes (drop (length bytes) front) rest)
+
+-- a list put in the place of one as long
+pub written_back : (len : ℕ) (new old : List ℕ) → len ≡ length old → length new ≡ length old → take len (new ++ drop (length new) old) ≡ new
+written_back len new old all same =
+    let nothing : drop (length new) old ≡ [] = drop_all (length new) old (omega (arith, same)) in
+    ap (λ (l : List ℕ). take len (new ++ l)) nothing ∙ ap (take len) (append-nil new) ∙ take_all len new (omega (arith, all, same))

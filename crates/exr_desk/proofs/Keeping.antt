@@ -1,6 +1,6 @@
 -- What a desk keeps, from one step to the next.
 use Rattle.std.proofs.Common.{◌≡◌, ◌⊎◌, inl, inr, ⊎_elim, ℕ, zero, suc, ◌+◌, ◌-◌, ◌*◌, ◌^◌, ◌<◌, ◌≤◌, min, Bool, true, false, eqb, IsTrue, List, [], ◌∷◌, ◌++◌, Option, Some, None, IsSome, length, get_or, take, drop, refl, sym, ap, ◌∙◌, subst, add-zero, append_assoc, arith, length-append, length-drop, take-append-drop}
-use Rattle.std.proofs.lemmas.Bool.{true≢false, false≢true, cases_lt, eq-eqb}
+use Rattle.std.proofs.lemmas.Bool.{true≢false, false≢true, cases_eq, cases_lt, eq-eqb}
 use Rattle.std.proofs.lemmas.List.{append-nil, length-take, take_all, drop_all, length_push}
 use Rattle.std.proofs.lemmas.List.Folds.{list_any_at}
 use Rattle.exr_outside.specs.Count.{Rose}
@@ -10,8 +10,8 @@ use Rattle.exr_desk.specs.Accepted.{chunk_of, chunks_at, IsFirstMissing, IsCompl
 use Rattle.exr_desk.specs.Order.{has, IsBegun, IsAllowed}
 use Rattle.exr_desk.specs.File.{IsFront, joined, offsets_from, filled, with_offsets, filed, IsPartial, HasFront, IsMixture}
 use Rattle.exr_desk.specs.Waiting.{WaitingState, no_chunk_of, Takes}
-use Rattle.exr_desk.specs.Desk.{DeskState, desk_of, chunks_of, IsDesk, CanWrite, IsSettled, IsKept}
-use Rattle.exr_desk.proofs.Chunks.{none_from, not_some, chunk_of-push_kept, chunks_at-append, chunks_at-push, chunks_at-kept, chunks_at-has}
+use Rattle.exr_desk.specs.Desk.{DeskState, desk_of, chunks_of, IsDesk, CanWrite, IsSettled, IsSettledBut, with_chunk, IsKept}
+use Rattle.exr_desk.proofs.Chunks.{none_from, not_some, chunk_of-push_other, chunk_of-push_kept, chunks_at-append, chunks_at-push, chunks_at-kept, chunks_at-has}
 use Rattle.exr_desk.proofs.Orders.{begun_none, begun_push, begun_more, begun_few, rising_end, rising_has, allowed_of}
 use Rattle.exr_desk.proofs.Bytes.{joined-append, joined-push, length-offsets_from, offsets_from-push, no_offsets, take-longer, take-behind, mixture_of_one, mixture, replaced-front}
 
@@ -396,3 +396,24 @@ module _ {S : Type 0} (means : SinkMeaning S) where
       let same = (first_is e n starts room appended first kept unbroken is).0 in
       let waits = waits_for e turn kept.desk settled unbroken below there fresh in
       (unbroken, waits.0, subst (λ (t : ℕ). t < turn) (sym same) waits.1, subst (λ (t : ℕ). IsFirstMissing (length e.entries) e.accepted t) (sym same) waits.2)
+
+  -- ---- a chunk that was accepted
+
+  -- a turn without a chunk was not taken
+  pub fresh_turn : (d : DeskState S) (turn : ℕ) → IsDesk means d → chunk_of d.accepted turn ≡ None → has d.taken turn ≡ false
+  fresh_turn d turn desk none =
+      let Goal : Bool → Type 0 = λ b. has d.taken turn ≡ b → b ≡ false in
+      let found : has d.taken turn ≡ false = elim (has d.taken turn) as Goal [
+        | true ↦ λ there. absurd (not_some (chunk_of d.accepted turn) none (chunks_at-has d.accepted d.taken turn desk.given there))
+        | false ↦ λ there. refl
+      ] refl in
+      found
+
+  -- no other chunk can be written then
+  pub settled_but : (d : DeskState S) (turn : ℕ) (chunk : List ℕ) → IsSettled d → IsSettledBut turn (with_chunk d turn chunk)
+  settled_but d turn chunk settled = λ unbroken free u can. elim (cases_eq turn u) [
+    | inl same ↦ sym same
+    | inr other ↦
+        let there = subst (λ (o : Option (List ℕ)). IsSome o) (chunk_of-push_other d.accepted turn u chunk other) can.there in
+        absurd (settled unbroken u (record { below = can.below; there = there; fresh = can.fresh; next = can.next }))
+  ]
