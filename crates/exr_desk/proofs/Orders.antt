@@ -78,7 +78,7 @@ begun_push n free xs turn begun below fresh next = record {
   ];
   once = IsDistinct-push nat_eq_equiv xs turn begun.once fresh;
   rising = λ unfree.
-      let is : turn ≡ 0 + length xs = elim next [ | inl loose ↦ absurd (true≢false (sym loose ∙ unfree)) | inr same ↦ omega (arith, same) ] in
+      let is : turn ≡ 0 + length xs = elim next [ inl loose ↦ absurd (true≢false (sym loose ∙ unfree)) | inr same ↦ omega (arith, same) ] in
       let size : suc (length xs) ≡ length (xs ++ turn ∷ []) = omega (arith, length_push xs turn) in
       ap (λ (l : List ℕ). l ++ turn ∷ []) (begun.rising unfree)
       ∙ ap (λ (x : ℕ). range_with_len 0 (length xs) ++ x ∷ []) is
@@ -130,8 +130,8 @@ goes_on (suc m) n free xs begun within =
     let Goal : Bool → Type 0 = λ b. has ys m ≡ b → (more : List ℕ) × Goes n free xs (suc m) more in
     elim (has ys m) as Goal [
       | true ↦ λ there. (
-          rest,
-          (before.1.0, λ turn below. elim (cases_eq turn m) [ | inl same ↦ ap (has ys) same ∙ there | inr other ↦ before.1.1 turn (omega (arith, below, other)) ]),
+        rest,
+        (before.1.0, λ turn below. elim (cases_eq turn m) [ inl same ↦ ap (has ys) same ∙ there | inr other ↦ before.1.1 turn (omega (arith, below, other)) ]),
       )
       | false ↦ λ fresh.
           let same : ys ++ m ∷ [] ≡ xs ++ (rest ++ m ∷ []) = append_assoc xs rest (m ∷ []) in

@@ -6,8 +6,8 @@
 mod accepted;
 mod chunk;
 mod desk;
-mod fill;
 mod filing;
+mod fill;
 mod stop;
 mod waiting;
 

@@ -1,4 +1,4 @@
-//! Files of three chunks, whose table entries are in falling order.
+//! Files of three chunks, whose table entries are in falling order, by rising turn and as the chunks come.
 
 ghost use Rattle.std.specs.Prelude.{◌≡◌, ◌×◌, [], IfOk, length};
 ghost use Rattle.exr_desk.specs.File.{IsFront};
@@ -19,10 +19,15 @@ const FRONT: &[u8] = b"hd\0\0\0\0\0\0\0\0\0\0\0\0\0\0\0\0\0\0\0\0\0\0\0\0";
 
 const WHOLE: &[u8] = b"hd\x1e\0\0\0\0\0\0\0\x1d\0\0\0\0\0\0\0\x1a\0\0\0\0\0\0\0aaabcc";
 
+/// The same with the chunks in the order 2, 0, 1.
+const FREE: &[u8] = b"hd\x1a\0\0\0\0\0\0\0\x1f\0\0\0\0\0\0\0\x1c\0\0\0\0\0\0\0ccaaab";
+
 /// What is put at which turn, and what each put answers: where the chunk is, or the word of a turn that has one.
 type Puts = &'static [(u32, Result<Placed, u64>)];
 
 struct Case {
+    /// Whether chunks are written as they come.
+    free: bool,
     /// The room of the sink, and its calls of `append` and of `write_at` that are to fail.
     room: usize,
     appends: &'static [u64],
@@ -39,18 +44,26 @@ const WRITTEN: Result<Placed, u64> = Ok(Placed::Written);
 
 const BROKEN: Result<Placed, u64> = Ok(Placed::Broken { faults: 1 });
 
-const CASES: [Case; 7] = [
+const CASES: [Case; 10] = [
     // The last turn first, and a turn twice: while it waits, and when it was written.
     Case {
+        free: false,
         room: 99,
         appends: &[],
         writes: &[],
-        puts: &[(2, WAITS), (1, WAITS), (1, Err(2)), (0, WRITTEN), (0, Err(4))],
+        puts: &[
+            (2, WAITS),
+            (1, WAITS),
+            (1, Err(2)),
+            (0, WRITTEN),
+            (0, Err(4)),
+        ],
         end: Ok(()),
         held: WHOLE,
     },
     // In order.
     Case {
+        free: false,
         room: 32,
         appends: &[],
         writes: &[],
@@ -60,6 +73,7 @@ const CASES: [Case; 7] = [
     },
     // Turn 1 is missing.
     Case {
+        free: false,
         room: 99,
         appends: &[],
         writes: &[],
@@ -69,6 +83,7 @@ const CASES: [Case; 7] = [
     },
     // Nothing was put.
     Case {
+        free: false,
         room: 99,
         appends: &[],
         writes: &[],
@@ -78,15 +93,23 @@ const CASES: [Case; 7] = [
     },
     // The first chunk's append fails.
     Case {
+        free: false,
         room: 99,
         appends: &[1],
         writes: &[],
-        puts: &[(0, BROKEN), (0, Err(4)), (1, BROKEN), (1, Err(2)), (2, BROKEN)],
+        puts: &[
+            (0, BROKEN),
+            (0, Err(4)),
+            (1, BROKEN),
+            (1, Err(2)),
+            (2, BROKEN),
+        ],
         end: Err(DeskCause::WriteFault { at: 26 }),
         held: FRONT,
     },
     // Room for the front and two bytes of the first chunk.
     Case {
+        free: false,
         room: 28,
         appends: &[],
         writes: &[],
@@ -96,6 +119,7 @@ const CASES: [Case; 7] = [
     },
     // The write of the tables fails.
     Case {
+        free: false,
         room: 99,
         appends: &[],
         writes: &[0],
@@ -103,17 +127,57 @@ const CASES: [Case; 7] = [
         end: Err(DeskCause::WriteFault { at: 32 }),
         held: b"hd\0\0\0\0\0\0\0\0\0\0\0\0\0\0\0\0\0\0\0\0\0\0\0\0aaabcc",
     },
+    // As they come, and a turn twice.
+    Case {
+        free: true,
+        room: 99,
+        appends: &[],
+        writes: &[],
+        puts: &[(2, WRITTEN), (0, WRITTEN), (2, Err(4)), (1, WRITTEN)],
+        end: Ok(()),
+        held: FREE,
+    },
+    // As they come; turn 0 is missing.
+    Case {
+        free: true,
+        room: 99,
+        appends: &[],
+        writes: &[],
+        puts: &[(2, WRITTEN), (1, WRITTEN)],
+        end: Err(DeskCause::Missing { turn: 0 }),
+        held: b"hd\0\0\0\0\0\0\0\0\0\0\0\0\0\0\0\0\0\0\0\0\0\0\0\0ccb",
+    },
+    // As they come; the second chunk's append fails.
+    Case {
+        free: true,
+        room: 99,
+        appends: &[2],
+        writes: &[],
+        puts: &[
+            (1, WRITTEN),
+            (0, BROKEN),
+            (2, BROKEN),
+            (2, Err(2)),
+            (0, Err(4)),
+        ],
+        end: Err(DeskCause::WriteFault { at: 27 }),
+        held: b"hd\0\0\0\0\0\0\0\0\0\0\0\0\0\0\0\0\0\0\0\0\0\0\0\0b",
+    },
 ];
 
 /// A front of two bytes and a table of three entries, that of turn 0 the last.
-fn front(alloc: Global) -> Result<Front, AllocError>
+fn front(alloc: Global, free: bool) -> Result<Front, AllocError>
     ensures { IfOk result (λ front. IsFront front.bytes.items front.entries.items × (length front.entries.items ≡ 3)) }
 {
     let entries = vec![in alloc; 18u64, 10, 2]?;
     let mut bytes = vec![in alloc; 0u8; 26]?;
     bytes[0] = b'h';
     bytes[1] = b'd';
-    Ok(Front { bytes, entries })
+    Ok(Front {
+        bytes,
+        entries,
+        free,
+    })
 }
 
 /// A sink with room for some bytes, and the calls of `append` and of `write_at` that are to fail.
@@ -146,7 +210,7 @@ fn put_all(rt: &impl Abort, alloc: Global, desk: &mut Desk<MemSink>, puts: Puts)
 
 fn try_case(rt: &impl Abort, alloc: Global, case: &Case) -> Result<(), Fail> {
     let sink = sink(alloc, case.room, case.appends, case.writes)?;
-    let mut desk = match Desk::open(alloc, front(alloc)?, sink) {
+    let mut desk = match Desk::open(alloc, front(alloc, case.free)?, sink) {
         Ok(desk) => desk,
         Err(DeskOpenStop { sink: _, cause: _ }) => return Err("not opened".into()),
     };
@@ -173,8 +237,15 @@ fn a_front_that_is_not_written(rt: HostRuntime) -> Result<(), Fail> {
     let alloc = rt.alloc();
     for (room, at) in [(0, 0), (5, 5)] {
         let sink = sink(alloc, room, &[], &[])?;
-        let Err(DeskOpenStop { sink, cause }) = Desk::open(alloc, front(alloc)?, sink) else {
-            return Err("opened".into());
+        let (sink, cause) = match Desk::open(alloc, front(alloc, false)?, sink) {
+            Ok(desk) => {
+                match desk.finish() {
+                    Ok(_sink) => {}
+                    Err(DeskStop { sink: _, cause: _ }) => {}
+                }
+                return Err("opened".into());
+            }
+            Err(DeskOpenStop { sink, cause }) => (sink, cause),
         };
         assert_eq!(rt; cause, Refusal::Fault(WriteFault { at }));
         assert_eq!(rt; sink.bytes().len() as u64, at);

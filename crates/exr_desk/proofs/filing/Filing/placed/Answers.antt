@@ -18,6 +18,6 @@ returns g c =
     let fresh = sym (ap (λ (d : DeskState g.row.K.Denot). has d.taken c.args.turn) c.self.view_is) ∙ sym c.is_taken.ensures ∙ c.if-is_taken.false in
     record {
       placed = waits_at g.K.Printer.means c.args.self.now c.self.inside.waiting.turns c.self.inside.starts.items (vec_capacity c.self.inside.starts) c.self.inside.appended c.len-first.result c.args.turn kept c.requires.settled unbroken
-      c.requires.turn c.requires.accepted fresh (c.len-first.ensures ∙ c.self.inside.starts.ok.0);
+          c.requires.turn c.requires.accepted fresh (c.len-first.ensures ∙ c.self.inside.starts.ok.0);
       desk = kept.desk;
     }

@@ -40,5 +40,5 @@ invariant_of-self-in-Err g c =
     (omega arith)
     (omega (arith, c.in-Err.ensures.taken, ap length c.deref.ensures.value))
     (λ tells.
-        subst (λ (l : List ℕ). AddsAtLeast c.in-Err.field-0.taken l (means.holds c.self.inside.sink) (means.holds c.append_all.new.printer)) c.deref.ensures.value (c.in-Err.ensures.cut tells))
+    subst (λ (l : List ℕ). AddsAtLeast c.in-Err.field-0.taken l (means.holds c.self.inside.sink) (means.holds c.append_all.new.printer)) c.deref.ensures.value (c.in-Err.ensures.cut tells))
     c.append_all.ensures.cause.later c.in-Err.ensures.cause.failed

@@ -25,15 +25,15 @@ returns-then-turn-len-clause-wrote g c =
     let all : length c.self.inside.front.entries.items ≡ length c.args.self.now.entries = ap (λ (d : DeskState g.row.K.Denot). length d.entries) c.self.view_is in (
       refl,
       none_next g.K.Printer.means c.args.self.now c.self.inside.waiting.turns c.self.inside.starts.items (vec_capacity c.self.inside.starts) c.self.inside.appended c.len-turn.result kept c.requires.rising c.requires.whole
-      (c.len-turn.ensures ∙ c.self.inside.starts.ok.0)
-      (elim c.then-turn-len.branch [
-        | then-turn-len-via-then-turn-len w ↦ inl (w.if-turn-len.true ∙ c.len.ensures ∙ c.self.inside.front.entries.ok.0 ∙ all)
-        | then-turn-len-via-else-turn-len+then-not-is_accepted w ↦
-            inr (λ there.
+          (c.len-turn.ensures ∙ c.self.inside.starts.ok.0)
+          (elim c.then-turn-len.branch [
+            | then-turn-len-via-then-turn-len w ↦ inl (w.if-turn-len.true ∙ c.len.ensures ∙ c.self.inside.front.entries.ok.0 ∙ all)
+            | then-turn-len-via-else-turn-len+then-not-is_accepted w ↦
+                inr (λ there.
                 let inside : IsSome (chunk_of c.self.inside.waiting.accepted c.len-turn.result) =
                 subst (λ (d : DeskState g.row.K.Denot). IsSome (chunk_of d.accepted c.len-turn.result)) (sym c.self.view_is) there in
                 false≢true (sym w.if-not-is_accepted.true ∙ w.is_accepted.ensures.1 inside))
-      ]),
+          ]),
     )
 
 pub write-requires-clause-can : goal.write-requires-clause-can

@@ -20,8 +20,8 @@ pub fill-requires-clause-turns : goal.fill-requires-clause-turns
 fill-requires-clause-turns g c = λ k below.
     let size = ap length c.deref.ensures.value in
     let main : k < length c.self.inside.waiting.taken → get_or c.self.inside.waiting.taken k 0 < length c.deref.result.now = λ inside.
-        let there = turn_at (length c.self.inside.front.entries.items) c.self.inside.front.free c.self.inside.waiting.taken k c.self.invariant.desk.order inside in
-        omega (arith, there, size) in
+    let there = turn_at (length c.self.inside.front.entries.items) c.self.inside.front.free c.self.inside.waiting.taken k c.self.invariant.desk.order inside in
+    omega (arith, there, size) in
     subst (λ (l : List ℕ). k < length l → get_or l k 0 < length c.deref.result.now) (sym c.taken.ensures) main below
 
 pub returns-in-Ok-clause-order : goal.returns-in-Ok-clause-order
