@@ -1,6 +1,6 @@
 //! Files of three chunks, whose table entries are in falling order, by rising turn and as the chunks come.
 
-ghost use Rattle.std.specs.Prelude.{◌≡◌, ◌×◌, [], IfOk, length};
+ghost use Rattle.std.specs.Prelude.{◌≡◌, ◌<◌, [], IfOk, length};
 ghost use Rattle.exr_desk.specs.File.{IsFront};
 
 use exr_base::Refusal;
@@ -189,23 +189,38 @@ fn sink(alloc: Global, room: usize, appends: &[u64], writes: &[u64]) -> Result<M
     Ok(MemSink::new(alloc, "out", room, appends, writes)?)
 }
 
+/// Puts the chunk of a turn, and what the put answers: where it is, or the word of a turn that has one.
+fn put_one(alloc: Global, desk: &mut Desk<MemSink>, turn: u32) -> Result<Result<Placed, u64>, Fail>
+    requires turn { turn < 3 }
+    requires turns { length desk.old.entries ≡ 3 }
+    ensures turns { length desk.new.entries ≡ 3 }
+{
+    let bytes = CHUNKS[turn as usize].to_vec(alloc)?;
+    if bytes.len() > 3 {
+        return Err("a long chunk".into());
+    }
+    match desk.put(turn, Packed { bytes }) {
+        Ok(placed) => Ok(Ok(placed)),
+        Err(TwiceChunk { word, chunk }) => {
+            if chunk.bytes.as_slice() != CHUNKS[turn as usize] {
+                return Err("another chunk came back".into());
+            }
+            Ok(Err(word))
+        }
+    }
+}
+
 /// Puts chunks at their turns, and compares the answers.
-fn put_all(rt: &impl Abort, alloc: Global, desk: &mut Desk<MemSink>, puts: Puts)
+fn put_all(rt: &impl Abort, alloc: Global, desk: &mut Desk<MemSink>, puts: Puts) -> Result<(), Fail>
     requires { length desk.old.entries ≡ 3 }
 {
     for (turn, answer) in puts {
         let turn = *turn;
         assert!(rt; turn < 3);
-        let bytes = CHUNKS[turn as usize].to_vec(alloc).expect(rt, "memory");
-        assert!(rt; bytes.len() <= 3);
-        match desk.put(turn, Packed { bytes }) {
-            Ok(placed) => assert_eq!(rt; Ok(placed), *answer, "turn {turn}"),
-            Err(TwiceChunk { word, chunk }) => {
-                assert_eq!(rt; Err(word), *answer, "turn {turn}");
-                assert_eq!(rt; chunk.bytes.as_slice(), CHUNKS[turn as usize]);
-            }
-        }
+        let placed = put_one(alloc, desk, turn)?;
+        assert_eq!(rt; placed, *answer, "turn {turn}");
     }
+    Ok(())
 }
 
 fn try_case(rt: &impl Abort, alloc: Global, case: &Case) -> Result<(), Fail> {
@@ -214,11 +229,12 @@ fn try_case(rt: &impl Abort, alloc: Global, case: &Case) -> Result<(), Fail> {
         Ok(desk) => desk,
         Err(DeskOpenStop { sink: _, cause: _ }) => return Err("not opened".into()),
     };
-    put_all(rt, alloc, &mut desk, case.puts);
+    let put = put_all(rt, alloc, &mut desk, case.puts);
     let (end, sink) = match desk.finish() {
         Ok(sink) => (Ok(()), sink),
         Err(DeskStop { sink, cause }) => (Err(cause), sink),
     };
+    put?;
     assert_eq!(rt; end, case.end);
     assert_eq!(rt; sink.bytes(), case.held);
     Ok(())
