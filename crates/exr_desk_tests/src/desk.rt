@@ -3,11 +3,12 @@
 ghost use Rattle.std.specs.Prelude.{◌≡◌, ◌<◌, [], IfOk, length};
 ghost use Rattle.exr_desk.specs.File.{IsFront};
 
+use crate::one_byte::OneByte;
 use exr_base::Refusal;
 use exr_desk::{
     Desk, DeskCause, DeskOpenStop, DeskStop, Front, Packed, Placed, TwiceChunk, WriteFault,
 };
-use exr_outside::{MemSink, Printer};
+use exr_outside::{MemSink, Printer, Sink};
 use std::alloc::{AllocError, Global};
 use std::process::Abort;
 use std::test::Fail;
@@ -190,7 +191,11 @@ fn sink(alloc: Global, room: usize, appends: &[u64], writes: &[u64]) -> Result<M
 }
 
 /// Puts the chunk of a turn, and what the put answers: where it is, or the word of a turn that has one.
-fn put_one(alloc: Global, desk: &mut Desk<MemSink>, turn: u32) -> Result<Result<Placed, u64>, Fail>
+fn put_one<K: Sink>(
+    alloc: Global,
+    desk: &mut Desk<K>,
+    turn: u32,
+) -> Result<Result<Placed, u64>, Fail>
     requires turn { turn < 3 }
     requires turns { length desk.old.entries ≡ 3 }
     ensures turns { length desk.new.entries ≡ 3 }
@@ -267,5 +272,49 @@ fn a_front_that_is_not_written(rt: HostRuntime) -> Result<(), Fail> {
         assert_eq!(rt; sink.bytes().len() as u64, at);
         assert_eq!(rt; sink.faults(), 1);
     }
+    Ok(())
+}
+
+/// Puts the chunks from the last to the first.
+fn put_falling<K: Sink>(alloc: Global, desk: &mut Desk<K>) -> Result<(), Fail>
+    requires { length desk.old.entries ≡ 3 }
+{
+    let last = put_one(alloc, desk, 2)?;
+    let second = put_one(alloc, desk, 1)?;
+    let first = put_one(alloc, desk, 0)?;
+    if last == WAITS && second == WAITS && first == WRITTEN {
+        Ok(())
+    } else {
+        Err("another answer".into())
+    }
+}
+
+/// What a sink that takes one byte a call holds in the end.
+fn write_by_one_byte(alloc: Global) -> Result<OneByte, Fail> {
+    let sink = OneByte {
+        bytes: Vec::new(alloc),
+        faults: 0,
+    };
+    let mut desk = match Desk::open(alloc, front(alloc, false)?, sink) {
+        Ok(desk) => desk,
+        Err(DeskOpenStop { sink: _, cause: _ }) => return Err("not opened".into()),
+    };
+    let put = put_falling(alloc, &mut desk);
+    let end = match desk.finish() {
+        Ok(sink) => Some(sink),
+        Err(DeskStop { sink: _, cause: _ }) => None,
+    };
+    put?;
+    match end {
+        Some(sink) => Ok(sink),
+        None => Err("not finished".into()),
+    }
+}
+
+#[test]
+fn a_sink_takes_one_byte_a_call(rt: HostRuntime) -> Result<(), Fail> {
+    let sink = write_by_one_byte(rt.alloc())?;
+    assert_eq!(rt; sink.bytes.as_slice(), WHOLE);
+    assert_eq!(rt; sink.faults, 0);
     Ok(())
 }
