@@ -1,5 +1,5 @@
 -- What a desk keeps, from one step to the next.
-use Rattle.std.proofs.Common.{◌≡◌, ◌⊎◌, inl, inr, ⊎_elim, ℕ, zero, suc, ◌+◌, ◌-◌, ◌*◌, ◌^◌, ◌<◌, ◌≤◌, min, Bool, true, false, eqb, IsTrue, List, [], ◌∷◌, ◌++◌, Option, Some, None, IsSome, length, get_or, take, drop, refl, sym, ap, ◌∙◌, subst, add-zero, append_assoc, arith, length-append, length-drop, take-append-drop}
+use Rattle.std.proofs.Common.{◌≡◌, ◌⊎◌, inl, inr, ℕ, ◌+◌, ◌^◌, ◌<◌, ◌≤◌, min, Bool, true, false, eqb, IsTrue, List, [], ◌∷◌, ◌++◌, Option, None, IsSome, length, get_or, take, drop, refl, sym, ap, ◌∙◌, subst, add-zero, append_assoc, arith, length-append, length-drop}
 use Rattle.std.proofs.lemmas.Bool.{true≢false, false≢true, cases_eq, cases_lt, eq-eqb}
 use Rattle.std.proofs.lemmas.List.{append-nil, length-take, take_all, drop_all, length_push}
 use Rattle.std.proofs.lemmas.List.Folds.{list_any_at}
@@ -8,7 +8,7 @@ use Rattle.exr_outside.specs.Sink.{SinkMeaning, replaced}
 use Rattle.exr_outside.specs.Transfer.{AddsAtLeast, ReplacesAtLeast}
 use Rattle.exr_desk.specs.Accepted.{chunk_of, chunks_at, IsFirstMissing, IsComplete}
 use Rattle.exr_desk.specs.Order.{has, IsBegun, IsAllowed}
-use Rattle.exr_desk.specs.File.{IsFront, joined, offsets_from, filled, with_offsets, filed, IsPartial, HasFront, IsMixture}
+use Rattle.exr_desk.specs.File.{IsFront, joined, offsets_from, filled, with_offsets, filed, IsPartial, IsMixture}
 use Rattle.exr_desk.specs.Waiting.{WaitingState, no_chunk_of, Takes}
 use Rattle.exr_desk.specs.Desk.{DeskState, desk_of, chunks_of, IsDesk, CanWrite, IsSettled, IsSettledBut, with_chunk, IsKept}
 use Rattle.exr_desk.proofs.Chunks.{none_from, not_some, chunk_of-push_other, chunk_of-push_kept, chunks_at-append, chunks_at-push, chunks_at-kept, chunks_at-has}

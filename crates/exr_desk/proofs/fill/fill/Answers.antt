@@ -1,4 +1,4 @@
-use Rattle.std.proofs.Common.{ap, sym, ◌∙◌, ℕ, ◌+◌, List, drop}
+use Rattle.std.proofs.Common.{ap, sym, ◌∙◌, ◌+◌, drop}
 use Rattle.exr_desk.specs.File.{filled}
 use Rattle.exr_desk.proofs.Bytes.{filled-next, filled-end}
 use Rattle.exr_desk.proofs.fill.fill.Goals as goal

@@ -1,4 +1,4 @@
-use Rattle.std.proofs.Common.{◌≡◌, ℕ, List, None, is_some, IsSome, sym, ap, ◌∙◌, subst}
+use Rattle.std.proofs.Common.{ℕ, List, is_some, IsSome, sym, ap, ◌∙◌, subst}
 use Rattle.std.proofs.lemmas.Bool.{false≢true}
 use Rattle.exr_desk.specs.Accepted.{chunk_of}
 use Rattle.exr_desk.specs.Order.{has}

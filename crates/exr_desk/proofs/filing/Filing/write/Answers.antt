@@ -1,4 +1,4 @@
-use Rattle.std.proofs.Common.{◌≡◌, ℕ, ◌++◌, List, length, ap, ◌∙◌, subst, arith}
+use Rattle.std.proofs.Common.{ℕ, ◌++◌, List, length, ap, ◌∙◌, subst, arith}
 use Rattle.std.specs.Vec.{vec_capacity}
 use Rattle.exr_outside.specs.Transfer.{AddsAtLeast}
 use Rattle.exr_desk.proofs.Keeping.{can_seen, unbroken_seen, start_fits, sum_fits, wrote, broke}

@@ -1,4 +1,4 @@
-use Rattle.std.proofs.Common.{◌≡◌, ◌-◌, ◌≤◌, length, true, false}
+use Rattle.std.proofs.Common.{◌≡◌, ◌-◌, length, true}
 use Rattle.exr_desk.specs.Order.{BeginsWith}
 use Rattle.exr_desk.specs.Desk.{IsSameDesk}
 use Rattle.exr_desk.proofs.filing.Filing.write_rising.Given as goal
