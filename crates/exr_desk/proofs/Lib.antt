@@ -1,0 +1,5 @@
+mod Orders
+mod Chunks
+mod Bytes
+mod Places
+mod Keeping

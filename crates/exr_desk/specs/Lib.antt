@@ -1,0 +1,6 @@
+pub mod Accepted
+pub mod Record
+pub mod Order
+pub mod File
+pub mod Waiting
+pub mod Desk
